@@ -1,0 +1,5 @@
+mod Turns
+mod Decimals
+mod Buffers
+mod Numbers
+mod Admitted

@@ -1,0 +1,3 @@
+pub mod Steady
+pub mod Turn
+pub mod Buffers
