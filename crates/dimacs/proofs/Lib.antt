@@ -1,0 +1,9 @@
+pub mod Scan
+pub mod Spelling
+pub mod Numbered
+pub mod Body
+pub mod HeaderLine
+pub mod Preamble
+pub mod Gathering
+pub mod Texts
+pub mod Writings

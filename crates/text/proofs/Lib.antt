@@ -3,3 +3,4 @@ mod Decimals
 mod Buffers
 mod Numbers
 mod Admitted
+mod Accepted

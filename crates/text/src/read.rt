@@ -6,6 +6,7 @@ ghost use lib.ListN.{length};
 ghost use Rattle.std.specs.Options.{isSome};
 ghost use Rattle.dimacs.specs.Steps.{go, head, put, stepOf, endOf, grown};
 ghost use Rattle.dimacs.specs.Reading.{reading, start as starting, closedBy, faultAt, limitOf};
+ghost use Rattle.dimacs.specs.Laws.{AcceptsFiles};
 ghost use Rattle.text.specs.Steady.{Steady, Decimal, Small};
 ghost use Rattle.text.specs.Turn.{Turned};
 use dimacs::Class;
@@ -163,9 +164,11 @@ impl Reader<'_> {
 
 // Reads a text into the list, each 0 that closes a clause too, and answers what it read.
 // A text with a fault leaves in the list what was read before it.
+// Accepted are exactly the well-formed files for which the list has room.
 pub fn read(text: &[u8], list: &mut [i32]) -> Result<Summary, Fault>
     ensures answer { λ r. ⌜ r ≡ reading (now (text .entry)) (now (list .entry)) .answer ⌝ }
     ensures list { λ r. ⌜ now (list .exit) ≡ reading (now (text .entry)) (now (list .entry)) .list ⌝ }
+    ensures files { λ r. ⌜ AcceptsFiles (now (text .entry)) (now (list .entry)) r (now (list .exit)) ⌝ }
 {
     let mut reader = Reader { list, machine: start() };
     for (at, byte) in text.iter().enumerate() {

@@ -4,7 +4,8 @@ ghost use mathlib.Core.Bool.{cond};
 ghost use mathlib.Core.List.{_++_, _∷_, []};
 ghost use Prim.Native.Nat.{ℕ, _+_, _-_, _<_, _≤_};
 ghost use lib.Dec.{leb};
-ghost use lib.ListN.{length, drop};
+ghost use lib.ListN.{length, take, drop};
+ghost use Rattle.std.specs.Vec.{made};
 ghost use Rattle.std.specs.declared.option.Option.the-variants.{Some, None};
 ghost use Rattle.std.specs.Joined.{joined};
 ghost use Rattle.std.specs.Written.{decimal, signed};
@@ -12,6 +13,7 @@ ghost use Rattle.logic.specs.Literal.{variable};
 ghost use Rattle.dimacs.specs.Clauses.{closes, closings, exceeds, unclosed};
 ghost use Rattle.dimacs.specs.File.{headerLine};
 ghost use Rattle.dimacs.specs.Written.{spaced, textOf, writeRefusal, writeAnswerOf, writeAnswer, writeLeaves};
+ghost use Rattle.dimacs.specs.Laws.{ReadsBack};
 ghost use Rattle.text.specs.Buffers.{overlaid, negative};
 use fault::Fault;
 use fault::Layer;
@@ -228,6 +230,7 @@ fn admit(variables: u32, numbers: &[i32], room: usize) -> Result<u32, Fault>
 pub fn write(variables: u32, numbers: &[i32], out: &mut [u8]) -> Result<usize, Fault>
     ensures answer { λ r. ⌜ r ≡ writeAnswer variables (now (numbers .entry)) (length (now (out .entry))) ⌝ }
     ensures bytes { λ r. ⌜ now (out .exit) ≡ writeLeaves variables (now (numbers .entry)) (now (out .entry)) ⌝ }
+    ensures reads_back { λ r. ⌜ made r (λ size. ReadsBack variables (now (numbers .entry)) (take size (now (out .exit)))) ⌝ }
 {
     let clauses = admit(variables, numbers, out.len())?;
     let start = put_header(out, variables, clauses);

@@ -11,6 +11,7 @@ use Rattle.fault.specs.declared.Fault.{Fault}
 use Rattle.dimacs.specs.declared.Class.{Class}
 use Rattle.dimacs.specs.Steps.{stepOf}
 use Rattle.dimacs.specs.Reading.{Reading, reading, stepAt}
+use Rattle.text.proofs.Accepted.{accepts-files}
 use Rattle.text.proofs.Turns.{turn, halted, ends, ends-badly}
 use Rattle.text.proofs.read.read.Needs as need
 use Rattle.text.proofs.read.read.Needs.{After-take}
@@ -31,7 +32,8 @@ returns-in-Break-take c =
     let all : record { answer = Err (c .in-Break-take .field-0 .0); list = now (c .take .last .self .list) } ≡ reading (c .args .text .now) (c .args .list .now) =
         sym (halted _ _ _ _ _ _ _ _ _ lt (stepped (need.at·returns-in-Break-take c .After-take)) (c .take .ensures .turned) (c .in-Break-take .was tt)) ∙ c .loop-at .inv .2 in
     let left : now (c .take .last .self .list) ≡ reading (c .args .text .now) (c .args .list .now) .list = ap (λ (r : Reading). r .list) all in
-    record { answer = p .1 ∙ ap (λ (f : Fault). Err f) (p .2) ∙ ap (λ (r : Reading). r .answer) all; list = search needs }
+    let told : _ ≡ reading (c .args .text .now) (c .args .list .now) .answer = p .1 ∙ ap (λ (f : Fault). Err f) (p .2) ∙ ap (λ (r : Reading). r .answer) all in
+    record { answer = told; list = search needs; files = accepts-files (c .args .text .now) (c .args .list .now) _ _ told (search needs) }
 
 pub returns-in-Break-end : need.returns-in-Break-end
 returns-in-Break-end c =
@@ -40,11 +42,13 @@ returns-in-Break-end c =
     let all : record { answer = Err (c .in-Break-end .field-0 .0); list = now (c .end .last .self .list) } ≡ reading (c .args .text .now) (c .args .list .now) =
         sym (ends-badly _ _ _ _ _ _ _ _ e (c .end .ensures .turned) (c .in-Break-end .was tt)) ∙ c .loop-at .inv .2 in
     let left : now (c .end .last .self .list) ≡ reading (c .args .text .now) (c .args .list .now) .list = ap (λ (r : Reading). r .list) all in
-    record { answer = p .1 ∙ ap (λ (f : Fault). Err f) (p .2) ∙ ap (λ (r : Reading). r .answer) all; list = search needs }
+    let told : _ ≡ reading (c .args .text .now) (c .args .list .now) .answer = p .1 ∙ ap (λ (f : Fault). Err f) (p .2) ∙ ap (λ (r : Reading). r .answer) all in
+    record { answer = told; list = search needs; files = accepts-files (c .args .text .now) (c .args .list .now) _ _ told (search needs) }
 
 pub returns : need.returns
 returns c =
     let e : c .loop-at .at ≡ length (c .args .text .now) = omega arith in
     let all = sym (ends _ _ _ _ _ _ _ e (c .end .ensures .turned) (c .in-Continue-end .was tt)) ∙ c .loop-at .inv .2 in
     let left : now (c .end .last .self .list) ≡ reading (c .args .text .now) (c .args .list .now) .list = ap (λ (r : Reading). r .list) all in
-    record { answer = c .summary .ensures ∙ ap (λ (r : Reading). r .answer) all; list = search needs }
+    let told : _ ≡ reading (c .args .text .now) (c .args .list .now) .answer = c .summary .ensures ∙ ap (λ (r : Reading). r .answer) all in
+    record { answer = told; list = search needs; files = accepts-files (c .args .text .now) (c .args .list .now) _ _ told (search needs) }

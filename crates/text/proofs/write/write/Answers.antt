@@ -18,6 +18,7 @@ use Rattle.fault.specs.declared.Refusal.{Refusal}
 use Rattle.dimacs.specs.Clauses.{closings}
 use Rattle.dimacs.specs.File.{headerLine}
 use Rattle.dimacs.specs.Written.{spaced, textOf, writeRefusal, writeAnswerOf, writeLeavesOf}
+use Rattle.text.proofs.Accepted.{reads-back}
 use Rattle.text.proofs.Admitted.{refused, admitted, has-room}
 use Rattle.text.proofs.Buffers.{Wrote, wrote-then, wrote-as, overlaid-start}
 use Rattle.text.proofs.write.write.Needs as need
@@ -45,7 +46,8 @@ returns-in-Break-clauses c =
     let text : List ℕ = textOf (c .args .variables) (c .args .numbers .now) in
     let p = err-from-errBy (c .from-residual .result) (c .from-residual .ensures .1) in
     let r = refused x (closings (c .args .numbers .now)) (length text) (c .in-Break-clauses .field-0 .0) text (c .args .out .now) (sym (c .in-Break-clauses .ensures tt)) in
-    record { answer = p .1 ∙ ap (λ (f : Fault). Err f) (p .2) ∙ sym (r .0); bytes = sym (r .1) }
+    let told = p .1 ∙ ap (λ (f : Fault). Err f) (p .2) ∙ sym (r .0) in
+    record { answer = told; bytes = sym (r .1); reads-back = reads-back (c .args .variables) (c .args .numbers .now) (c .args .out .now) (c .args .out .now) _ told (sym (r .1)) }
 
 pub put-header-start-requires : need.put-header-start-requires
 put-header-start-requires c κs = omega (arith, room (need.at·put-header-start-requires c .In-Continue-clauses))
@@ -67,6 +69,6 @@ returns c =
     let fits : 0 + length (h ++ 10 ∷ []) ≤ length (c .args .out .now) = omega (arith, room d, length-append h (10 ∷ [])) in
     let all = wrote-as _ _ _ _ _ _ (pieces d) (wrote-then (c .args .out .now) 0 (h ++ 10 ∷ []) _ _ (joined spaced zs) _ _ fits front back) in
     let none = sym (granted d .0) in
-    record {
-      answer = ap (λ (n : ℕ). Ok n) (all .end-is ∙ zero-add (length text)) ∙ ap (λ (x : Option Refusal). writeAnswerOf x (length text)) none;
-      bytes = all .after-is ∙ overlaid-start (c .args .out .now) text ∙ ap (λ (x : Option Refusal). writeLeavesOf x text (c .args .out .now)) none }
+    let told = ap (λ (n : ℕ). Ok n) (all .end-is ∙ zero-add (length text)) ∙ ap (λ (x : Option Refusal). writeAnswerOf x (length text)) none in
+    let left = all .after-is ∙ overlaid-start (c .args .out .now) text ∙ ap (λ (x : Option Refusal). writeLeavesOf x text (c .args .out .now)) none in
+    record { answer = told; bytes = left; reads-back = reads-back (c .args .variables) zs (c .args .out .now) _ _ told left }
