@@ -8,7 +8,9 @@ use std::io::Write;
 fn main(rt: LibcRuntime) -> io::Result<()> {
     let mut text = Vec::new(rt.alloc());
     // one byte past the limit tells that there are too many
-    let _ = rt.stdin().take(MAX_BYTES as u64 + 1).read_to_end(&mut text)?;
+    let _ = rt.stdin()
+        .take(MAX_BYTES as u64 + 1)
+        .read_to_end(&mut text)?;
     let output = compact(rt.alloc(), text.as_slice())?;
     rt.stdout().write_all(output.as_slice())
 }

@@ -15,18 +15,20 @@ ghost use Rattle.fault.specs.Fault.{faultText};
 ghost use Rattle.dimacs.specs.Reading.{faultAt};
 ghost use Rattle.compactor.specs.Printed.{countFault, fewVariables, emptyList, outcome, sizeOf, over, printed};
 ghost use Rattle.compactor.specs.Kept.{KeepsClauses};
-use std::alloc::AllocError;
-use std::alloc::Global;
 use fault::Fault;
 use fault::FaultDisplay;
 use fault::Layer;
 use fault::Refusal;
+use std::alloc::AllocError;
+use std::alloc::Global;
 use text::read::read;
 use text::write::write;
 
 // The limits of the program: bytes of input, variables, and numbers of a buffer.
 pub const MAX_BYTES: usize = 65_536;
+
 const MAX_VARIABLES: u32 = 256;
+
 const MAX_NUMBERS: usize = 16_384;
 // A header takes at most 18 bytes, and a number of at most three digits at most 5.
 const MAX_OUTPUT: usize = 81_938;
@@ -36,7 +38,11 @@ fn check_length(len: usize) -> Result<(), Fault>
     ensures { λ r. ⌜ r ≡ cond (ltb 65_536 len) (Err (faultAt Refusal.ClauseListFull 65_536)) (Ok tt) ⌝ }
 {
     if len > MAX_BYTES {
-        return Err(Fault { refusal: Refusal::ClauseListFull, layer: Layer::Text, place: MAX_BYTES });
+        return Err(Fault {
+            refusal: Refusal::ClauseListFull,
+            layer: Layer::Text,
+            place: MAX_BYTES,
+        });
     }
     Ok(())
 }
@@ -46,7 +52,11 @@ fn check_variables(n: u32) -> Result<(), Fault>
     ensures { λ r. ⌜ r ≡ cond (fewVariables n) (Ok tt) (Err countFault) ⌝ }
 {
     if n < 1 || n > MAX_VARIABLES {
-        return Err(Fault { refusal: Refusal::VariableCount, layer: Layer::Network, place: 0 });
+        return Err(Fault {
+            refusal: Refusal::VariableCount,
+            layer: Layer::Network,
+            place: 0,
+        });
     }
     Ok(())
 }

@@ -1,19 +1,17 @@
 -- Past the header the reader decides whether the words to come are the numbers of whole clauses.
-use Prim.Native.Nat.{ℕ, zero, suc, _+_, _-_, _*_, _≤_, _<_}
+use Prim.Native.Nat.{ℕ, suc, _+_, _≤_, _<_}
 use mathlib.Core.Path.{_≡_, refl, sym, ap, subst, _∙_}
-use mathlib.Core.Bool.{Bool, true, false, cond, not, _&&_, _||_}
-use mathlib.Core.Logic.{_⊎_, inl, inr}
+use mathlib.Core.Bool.{Bool, true, false, cond}
 use mathlib.Core.List.{List, [], _∷_, _++_, map, append-nil, append-assoc}
 use native.Mathlib.Omega.{arith}
-use lib.Dec.{eqb, leb, ltb}
+use lib.Dec.{eqb, ltb}
 use lib.IntN.{ℤ, natAbs}
-use lib.ListN.{length, getD}
-use Rattle.std.proofs.shelf.Tests.{true≢false, cond-true, cond-false, leb-true, leb-false, ltb-true, ltb-false, eqb-true, eqb-false, and-from}
+use lib.ListN.{length}
+use Rattle.std.proofs.shelf.Tests.{true≢false, ltb-true, ltb-false, eqb-true, eqb-false, and-from}
 use Rattle.std.proofs.shelf.Ways.{tells}
 use Rattle.fault.specs.declared.Refusal.the-variants.{UnexpectedByte}
 use Rattle.std.specs.Text.{asciiDigit}
 use Rattle.std.specs.Written.{signed}
-use Rattle.std.specs.shelf.Text.{allDigits}
 use Rattle.dimacs.specs.declared.Class.{Class}
 use Rattle.dimacs.specs.declared.Class.the-variants.{Space, OtherBlank, LineFeed, Minus, Digit, C, N, F, P, Other}
 use Rattle.dimacs.specs.declared.Machine.{Machine}
@@ -21,10 +19,10 @@ use Rattle.dimacs.specs.declared.State.{State}
 use Rattle.dimacs.specs.declared.State.the-variants.{LineStart, Gap, Comment, Keyword, Variables, BeforeClauses, Clauses, Sign, Zero, Number}
 use Rattle.dimacs.specs.Bytes.{classOf}
 use Rattle.dimacs.specs.Clauses.{exceeds}
-use Rattle.dimacs.specs.Steps.{Step, go, head, put, stop, stepOf, endOf, onGap, onComment, onSign, onZero, onNumber, grown}
+use Rattle.dimacs.specs.Steps.{Step, go, stop, stepOf, endOf, onGap, onComment, onSign, onZero, onNumber, grown}
 use Rattle.dimacs.specs.Reading.{Reading, readOn, applied, listedBy, closedBy}
-use Rattle.dimacs.proofs.Scan.{Carry, fresh, noted, word, kept, whole, ends, turn, scan, scan-begins, blanks}
-use Rattle.dimacs.proofs.Spelling.{Led, Form, Sized, exact, Spelled, valueOn, signOn, form-at, no-first, no-minus, no-minus-more, no-nought-more, no-later, class-digit, digit-of, digit-bounds, led-push, sized-push, spelled-zero, spelled-sized}
+use Rattle.dimacs.proofs.Scan.{Carry, fresh, noted, word, kept, whole, ends, turn, scan, scan-begins}
+use Rattle.dimacs.proofs.Spelling.{Led, Form, Sized, exact, Spelled, signOn, form-at, no-first, no-minus, no-minus-more, no-nought-more, no-later, class-digit, digit-of, digit-bounds, led-push, sized-push, spelled-zero, spelled-sized}
 use Rattle.dimacs.proofs.Numbered.{machine, Decided, Fits, within-first, stepped, closed-decided, ended-is}
 
 -- what the reader's state says of the bytes behind it
@@ -272,8 +270,8 @@ body-decided n k few [] s c listed closed inside list at h stands =
     let t : Step = endOf true s at in
     subst (λ (x : List (List ℕ)). Decided n k listed closed inside list x (readOn m list at [])) (append-nil (whole c))
     (subst (λ (r : Reading). Decided n k listed closed inside list (whole c ++ []) r) (sym (ended-is (applied m t (length list)) (listedBy m t list) at))
-     (stepped n k few listed closed inside list [] (λ x. Unit {0}) (λ lst x. record { answer = closedBy (x .header) x at; list = lst })
-      (λ x l d i lst q u. closed-decided n k l d i lst x at q) s (whole c) t h (end-fits s c at stands)))
+    (stepped n k few listed closed inside list [] (λ x. Unit {0}) (λ lst x. record { answer = closedBy (x .header) x at; list = lst })
+    (λ x l d i lst q u. closed-decided n k l d i lst x at q) s (whole c) t h (end-fits s c at stands)))
 body-decided n k few (b ∷ bs) s c listed closed inside list at h stands =
     stepped n k few listed closed inside list (scan (turn c (classOf b) b) bs) (λ x. Stands x (turn c (classOf b) b)) (λ lst x. readOn x lst (at + 1) bs)
     (λ x l d i lst q u. body-decided n k few bs x (turn c (classOf b) b) l d i lst (at + 1) q u) s (ends c (classOf b)) (stepOf true s (classOf b) at) h (step-fits s c b at bs stands)

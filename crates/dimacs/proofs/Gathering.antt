@@ -1,18 +1,16 @@
 -- Numbers and the clauses that they are of.
-use Prim.Native.Nat.{ℕ, zero, suc, _+_, _-_, _≤_, _<_}
+use Prim.Native.Nat.{ℕ, suc, _+_, _-_, _≤_, _<_}
 use mathlib.Core.Path.{_≡_, refl, sym, ap, subst, _∙_}
-use mathlib.Core.Bool.{Bool, true, false, cond, not, _||_}
-use mathlib.Core.Logic.{_⊎_, inl, inr}
+use mathlib.Core.Bool.{Bool, true, false, not}
 use mathlib.Core.List.{List, [], _∷_, _++_, map, append-assoc}
 use native.Mathlib.Nat.{zero-add}
 use native.Mathlib.Omega.{arith}
-use lib.Dec.{eqb, ltb}
+use lib.Dec.{ltb}
 use lib.IntN.{ℤ, pos, negsuc, natAbs}
 use lib.ListN.{length, set, take, drop, getD, length-set, take-append-drop}
 use Rattle.std.proofs.shelf.Lists.{take-more-set, drop-set-lt}
-use Rattle.std.proofs.shelf.Tests.{true≢false, cond-true, cond-false, cases-bool, le-ltb, or-from, ne-eqb, eqb-true, eqb-false}
+use Rattle.std.proofs.shelf.Tests.{true≢false, cond-true, cond-false, le-ltb, or-from, ne-eqb, eqb-true, eqb-false}
 use Rattle.std.specs.Written.{signed}
-use Rattle.logic.specs.Literal.{variable, Literal}
 use Rattle.dimacs.specs.Clauses.{numbers, LiteralsOf, ClausesOf, closes, closings, unclosed, exceeds}
 use Rattle.dimacs.proofs.Spelling.{same-signed}
 use Rattle.dimacs.proofs.Numbered.{endsInside, putAll, within-first}
@@ -45,6 +43,29 @@ pub numbers-count : (n : ℕ) (cs : List (List ℤ)) → ClausesOf n cs → clos
 numbers-count n [] h = refl
 numbers-count n (c ∷ cs) h = clause-count n c (numbers cs) (h .0) ∙ ap suc (numbers-count n cs (h .1))
 
+clause-same : (n m : ℕ) (c d rest more : List ℤ) → LiteralsOf n c → LiteralsOf m d → c ++ pos 0 ∷ rest ≡ d ++ pos 0 ∷ more → (c ≡ d) × (rest ≡ more)
+clause-same n m [] [] rest more l k e = (refl, (cc))
+clause-same n m [] (b ∷ d) rest more l k e = let h : b ≡ pos 0 = cc in absurd (omega (arith, k .0 .0, ap natAbs h))
+clause-same n m (a ∷ c) [] rest more l k e = let h : a ≡ pos 0 = cc in absurd (omega (arith, l .0 .0, ap natAbs h))
+clause-same n m (a ∷ c) (b ∷ d) rest more l k e =
+    let here : a ≡ b = cc in
+    let there : c ++ pos 0 ∷ rest ≡ d ++ pos 0 ∷ more = cc in
+    let r = clause-same n m c d rest more (l .1) (k .1) there in
+    (ap (λ (x : ℤ). x ∷ c) here ∙ ap (λ (x : List ℤ). b ∷ x) (r .0), r .1)
+
+numbers-some : (c : List ℤ) (cs : List (List ℤ)) → [] ≡ numbers (c ∷ cs) → ⊥
+numbers-some [] cs e = omega (arith, ap length e)
+numbers-some (a ∷ c) cs e = omega (arith, ap length e)
+
+-- the numbers tell the clauses
+pub clauses-same : (n m : ℕ) (cs ds : List (List ℤ)) → ClausesOf n cs → ClausesOf m ds → numbers cs ≡ numbers ds → cs ≡ ds
+clauses-same n m [] [] l k e = refl
+clauses-same n m [] (d ∷ ds) l k e = absurd (numbers-some d ds e)
+clauses-same n m (c ∷ cs) [] l k e = absurd (numbers-some c cs (sym e))
+clauses-same n m (c ∷ cs) (d ∷ ds) l k e =
+    let r = clause-same n m c d (numbers cs) (numbers ds) (l .0) (k .0) e in
+    ap (λ (x : List ℤ). x ∷ cs) (r .0) ∙ ap (λ (x : List (List ℤ)). d ∷ x) (clauses-same n m cs ds (l .1) (k .1) (r .1))
+
 -- ---- from numbers to clauses
 
 -- clauses that these numbers are of, the first of them already begun if the numbers are read inside one
@@ -66,7 +87,8 @@ close n z zs inside h g =
       same = ap (λ (x : List ℤ). pos 0 ∷ x) (g .same) ∙ ap (λ (x : ℤ). x ∷ zs) (sym (zero-closes z h));
       literals = (tt, g .literals);
       count = ap suc (g .count) ∙ (omega (arith, cond-true {A = ℕ} (closes z) 1 0 h));
-      begun = λ e. omega arith }
+      begun = λ e. omega arith;
+    }
 
 extend : (n : ℕ) (z : ℤ) (zs : List ℤ) (inside : Bool) → closes z ≡ false → natAbs z ≤ n → Gathered n zs true → Gathered n (z ∷ zs) inside
 extend n z zs inside h low g = by (g .clauses) (g .same) (g .literals) (g .count) (g .begun refl)
@@ -80,7 +102,8 @@ extend n z zs inside h low g = by (g .clauses) (g .same) (g .literals) (g .count
           same = ap (λ (x : List ℤ). z ∷ x) e;
           literals = (((omega arith, low), l .0), l .1);
           count = k ∙ omega (arith, cond-false {A = ℕ} (closes z) 1 0 h);
-          begun = λ q. omega arith }
+          begun = λ q. omega arith;
+        }
 
 pub gather : (n : ℕ) (zs : List ℤ) (inside : Bool) → exceeds n zs ≡ false → endsInside inside zs ≡ false → Gathered n zs inside
 gather n [] true w o = absurd (true≢false o)

@@ -1,12 +1,12 @@
 -- The reader in the header line: it accepts just `p cnf n k` and a line feed.
 use Prim.Native.Nat.{ℕ, zero, suc, _+_, _-_, _*_, _/_, _%_, _≤_, _<_, _^_}
 use mathlib.Core.Path.{_≡_, refl, sym, ap, subst, _∙_}
-use mathlib.Core.Bool.{Bool, true, false, cond, not, _&&_, _||_}
+use mathlib.Core.Bool.{true, false, _&&_}
 use mathlib.Core.Logic.{_⊎_, inl, inr}
-use mathlib.Core.List.{List, [], _∷_, _++_, map, append-nil, append-assoc}
+use mathlib.Core.List.{List, [], _∷_, _++_, append-nil, append-assoc}
 use native.Mathlib.Omega.{arith}
-use lib.Dec.{eqb, leb, ltb}
-use lib.IntN.{ℤ, natAbs}
+use lib.Dec.{leb, ltb}
+use lib.IntN.{ℤ}
 use lib.ListN.{length, getD, length-append}
 use Rattle.std.proofs.shelf.Lists.{append-cancel-left}
 use Rattle.std.proofs.shelf.Decimals.{digits-decimal, value-decimal, decimal-digit, decimal-step, decimal-some}
@@ -16,20 +16,18 @@ use Rattle.std.specs.Text.{asciiDigit}
 use Rattle.std.specs.Written.{decimal}
 use Rattle.std.specs.shelf.Text.{allDigits}
 use Rattle.std.specs.declared.option.Option.the-variants.{None}
-use Rattle.std.specs.declared.result.Result.{Result}
-use Rattle.std.specs.declared.result.Result.the-variants.{Ok, Err}
+use Rattle.std.specs.declared.result.Result.the-variants.{Err}
 use Rattle.fault.specs.declared.Fault.{Fault}
 use Rattle.fault.specs.declared.Layer.the-variants.{Text}
 use Rattle.fault.specs.declared.Refusal.{Refusal}
 use Rattle.fault.specs.declared.Refusal.the-variants.{MalformedHeader}
 use Rattle.dimacs.specs.declared.Class.{Class}
-use Rattle.dimacs.specs.declared.Class.the-variants.{Space, OtherBlank, LineFeed, Minus, Digit, C, N, F, P, Other}
 use Rattle.dimacs.specs.declared.Machine.{Machine}
 use Rattle.dimacs.specs.declared.State.{State}
 use Rattle.dimacs.specs.declared.State.the-variants.{LineStart, Keyword, Variables, BeforeClauses, Clauses}
 use Rattle.dimacs.specs.Bytes.{classOf}
 use Rattle.dimacs.specs.File.{headerLine}
-use Rattle.dimacs.specs.Steps.{Step, go, head, put, stop, stepOf, endOf, onKeyword, onVariables, onBeforeClauses, onClauses}
+use Rattle.dimacs.specs.Steps.{Step, go, head, stop, stepOf, endOf, onKeyword, onVariables, onBeforeClauses, onClauses}
 use Rattle.dimacs.specs.Reading.{Reading, readOn, applied, listedBy, following, ended}
 use Rattle.dimacs.proofs.Spelling.{valueOn, own, value-grows, value-append, class-digit, digit-bounds, digits-rest, digits-append, led-decimal}
 use Rattle.dimacs.proofs.Numbered.{machine}
@@ -154,17 +152,19 @@ module _ (T : State) (S : ℕ → State) (limit e : ℕ) (counter : Counter T S 
   run [] v at low =
       lost (stop-end (S v) list at (counter .cut v at))
       (λ x rest h q. let d : allDigits (decimal x ++ e ∷ rest) ≡ true = subst (λ (l : List ℕ). allDigits l ≡ true) (sym (append-nil (decimal v)) ∙ q) (decimal-digits v (omega (arith, counter .few))) in
-          counter .plain (and-parts (asciiDigit e) (allDigits rest) (digits-rest (decimal x) (e ∷ rest) d) .0))
+      counter .plain (and-parts (asciiDigit e) (allDigits rest) (digits-rest (decimal x) (e ∷ rest) d) .0))
   run (b ∷ bs) v at low = by (cases-bool (asciiDigit b)) (cases-lt 0 v) (cases-lt limit (10 * v + (b - 48))) (run bs (10 * v + (b - 48)) (at + 1))
     where
       plainly : asciiDigit b ≡ false → asciiDigit b ≡ true → ⊥
       plainly n d = true≢false (sym d ∙ n)
+
       other : (asciiDigit b ≡ true → ⊥) → (b ≡ e) ⊎ (b ≡ e → ⊥) → Counted S limit e list (decimal v) (b ∷ bs) (readOn (early (S v)) list at (b ∷ bs))
       other n (inl same) =
           found v at bs (ap (λ (x : ℕ). decimal v ++ x ∷ bs) same) low (ap (λ (x : ℕ). readOn (early (S v)) list at (x ∷ bs)) same)
       other n (inr differ) =
           lost (stop-step (S v) list at b bs (counter .bad v b at n differ))
           (λ x rest h q. differ (digits-same (decimal v) (decimal x) bs rest b e (decimal-digits v (omega (arith, counter .few))) (decimal-digits x (omega (arith, counter .few))) n (counter .plain) q .1))
+
       by : (asciiDigit b ≡ true) ⊎ (asciiDigit b ≡ false) → (0 < v) ⊎ (v ≤ 0) → (limit < 10 * v + (b - 48)) ⊎ (10 * v + (b - 48) ≤ limit)
           → (10 * v + (b - 48) ≤ limit → Counted S limit e list (decimal (10 * v + (b - 48))) bs (readOn (early (S (10 * v + (b - 48)))) list (at + 1) bs))
           → Counted S limit e list (decimal v) (b ∷ bs) (readOn (early (S v)) list at (b ∷ bs))
@@ -242,7 +242,8 @@ variables-counter from =
       more = λ v c at d p h. ap (λ (k : Class). stepOf false (Variables from v) k at) (class-digit c d) ∙ cond-true _ _ _ (and-from _ _ (lt-ltb 0 v p) (lt-ltb v 100_000_000 (omega arith)));
       most = λ v c at d o. (MalformedHeader, from, ap (λ (k : Class). stepOf false (Variables from v) k at) (class-digit c d) ∙ cond-false _ _ _ (full v c d o));
       bad = λ v c at n d. (MalformedHeader, from, bad-variables from v c n d);
-      cut = λ v at. (MalformedHeader, from, refl) }
+      cut = λ v at. (MalformedHeader, from, refl);
+    }
   where
     full : (v c : ℕ) → asciiDigit c ≡ true → (v ≡ 0) ⊎ (999_999_999 < 10 * v + (c - 48)) → (ltb 0 v && ltb v 100_000_000) ≡ false
     full v c d (inl z) = and-left _ _ (le-ltb 0 v (omega arith))
@@ -260,7 +261,8 @@ clauses-counter from variables =
       more = λ v c at d p h. ap (λ (k : Class). stepOf false (Clauses from variables v) k at) (class-digit c d) ∙ cond-true _ _ _ (and-from _ _ (lt-ltb 0 v p) (le-leb (10 * v + (c - 48)) 1_000_000 h));
       most = λ v c at d o. (MalformedHeader, from, ap (λ (k : Class). stepOf false (Clauses from variables v) k at) (class-digit c d) ∙ cond-false _ _ _ (full v c d o));
       bad = λ v c at n d. (MalformedHeader, from, bad-clauses from variables v c n d);
-      cut = λ v at. (MalformedHeader, from, refl) }
+      cut = λ v at. (MalformedHeader, from, refl);
+    }
   where
     full : (v c : ℕ) → asciiDigit c ≡ true → (v ≡ 0) ⊎ (1_000_000 < 10 * v + (c - 48)) → (ltb 0 v && leb (10 * v + (c - 48)) 1_000_000) ≡ false
     full v c d (inl z) = and-left _ _ (le-ltb 0 v (omega arith))
@@ -291,6 +293,7 @@ module _ (list : List ℤ) (from : ℕ) where
     where
       tail : (n k : ℕ) (rest : List ℕ) → keyword ++ bs ≡ headerLine n k ++ 10 ∷ rest → bs ≡ decimal n ++ 32 ∷ (decimal k ++ 10 ∷ rest)
       tail n k rest e = append-cancel-left keyword bs (decimal n ++ 32 ∷ (decimal k ++ 10 ∷ rest)) (e ∙ past-keyword n k rest)
+
       second : (x there : ℕ) (rest : List ℕ) → bs ≡ decimal x ++ 32 ∷ rest → x ≤ 999_999_999 → readOn (early (Keyword from 5)) list at bs ≡ readOn (early (BeforeClauses from x)) list there rest
           → Counted (λ v. Clauses from x v) 1_000_000 10 list [] rest (readOn (early (BeforeClauses from x)) list there rest) → Headed list keyword bs (readOn (early (Keyword from 5)) list at bs)
       second x there rest w h u (found y far more v g t) =
@@ -299,6 +302,7 @@ module _ (list : List ℤ) (from : ℕ) where
       second x there rest w h u (lost f never) =
           misses (refused-at u f)
           (λ n k more few some e. never k more some (digits-same (decimal x) (decimal n) rest (decimal k ++ 10 ∷ more) 32 32 (decimal-digits x (omega arith)) (decimal-digits n few) (λ d. true≢false (sym d)) (λ d. true≢false (sym d)) (sym w ∙ tail n k more e) .2))
+
       first : Counted (λ v. Variables from v) 999_999_999 32 list [] bs (readOn (early (Keyword from 5)) list at bs) → Headed list keyword bs (readOn (early (Keyword from 5)) list at bs)
       first (found x there rest w h u) =
           second x (there + 1) rest w h (u ∙ go-step (Variables from x) list there (BeforeClauses from x) 32 rest refl) (counted _ _ _ _ (clauses-counter from x) list rest (there + 1))
@@ -326,7 +330,7 @@ module _ (list : List ℤ) (from : ℕ) where
   header-decided =
       expect (Keyword from 0) (Keyword from 1) (112 ∷ []) 32 (λ at. refl) (λ b at n. (MalformedHeader, from, bad-first from b n)) (λ at. (MalformedHeader, from, refl)) _ (λ n k rest. refl)
       (expect (Keyword from 1) (Keyword from 2) (112 ∷ 32 ∷ []) 99 (λ at. refl) (λ b at n. (MalformedHeader, from, bad-second from b n)) (λ at. (MalformedHeader, from, refl)) _ (λ n k rest. refl)
-       (expect (Keyword from 2) (Keyword from 3) (112 ∷ 32 ∷ 99 ∷ []) 110 (λ at. refl) (λ b at n. (MalformedHeader, from, bad-third from b n)) (λ at. (MalformedHeader, from, refl)) _ (λ n k rest. refl)
-        (expect (Keyword from 3) (Keyword from 4) (112 ∷ 32 ∷ 99 ∷ 110 ∷ []) 102 (λ at. refl) (λ b at n. (MalformedHeader, from, bad-fourth from b n)) (λ at. (MalformedHeader, from, refl)) _ (λ n k rest. refl)
-         (expect (Keyword from 4) (Keyword from 5) (112 ∷ 32 ∷ 99 ∷ 110 ∷ 102 ∷ []) 32 (λ at. refl) (λ b at n. (MalformedHeader, from, bad-fifth from b n)) (λ at. (MalformedHeader, from, refl)) _ (λ n k rest. refl)
-          numbers-headed))))
+      (expect (Keyword from 2) (Keyword from 3) (112 ∷ 32 ∷ 99 ∷ []) 110 (λ at. refl) (λ b at n. (MalformedHeader, from, bad-third from b n)) (λ at. (MalformedHeader, from, refl)) _ (λ n k rest. refl)
+      (expect (Keyword from 3) (Keyword from 4) (112 ∷ 32 ∷ 99 ∷ 110 ∷ []) 102 (λ at. refl) (λ b at n. (MalformedHeader, from, bad-fourth from b n)) (λ at. (MalformedHeader, from, refl)) _ (λ n k rest. refl)
+      (expect (Keyword from 4) (Keyword from 5) (112 ∷ 32 ∷ 99 ∷ 110 ∷ 102 ∷ []) 32 (λ at. refl) (λ b at n. (MalformedHeader, from, bad-fifth from b n)) (λ at. (MalformedHeader, from, refl)) _ (λ n k rest. refl)
+      numbers-headed))))

@@ -1,24 +1,21 @@
 -- One step of the reader past the header, and what it makes of the words still to come.
-use Prim.Native.Nat.{ℕ, zero, suc, _+_, _-_, _*_, _≤_, _<_}
+use Prim.Native.Nat.{ℕ, suc, _+_, _≤_, _<_}
 use mathlib.Core.Path.{_≡_, refl, sym, ap, subst, _∙_}
-use mathlib.Core.Bool.{Bool, true, false, cond, not, _&&_, _||_}
+use mathlib.Core.Bool.{Bool, true, false, cond, not}
 use mathlib.Core.Logic.{_⊎_, inl, inr}
-use mathlib.Core.List.{List, [], _∷_, _++_, map, append-nil, append-assoc}
+use mathlib.Core.List.{List, [], _∷_, _++_, map}
 use native.Mathlib.Omega.{arith}
 use lib.Dec.{eqb, leb, ltb}
-use lib.IntN.{ℤ, pos, negsuc, negℤ, natAbs}
-use lib.ListN.{length, set, take, drop, length-set}
-use Rattle.std.proofs.shelf.Tests.{true≢false, cases-lt, cond-true, cond-false, leb-true, leb-false, ltb-true, ltb-false, le-ltb, or-parts, or-from, eqb-true, eqb-false}
+use lib.IntN.{ℤ, natAbs}
+use lib.ListN.{length, set, length-set}
+use Rattle.std.proofs.shelf.Tests.{true≢false, cases-lt, leb-true, leb-false, ltb-true, ltb-false, le-ltb, or-parts, or-from, eqb-true, eqb-false}
 use Rattle.std.specs.Written.{signed}
 use Rattle.std.specs.Results.{Cases}
-use Rattle.std.specs.declared.option.Option.{Option}
-use Rattle.std.specs.declared.option.Option.the-variants.{Some, None}
+use Rattle.std.specs.declared.option.Option.the-variants.{Some}
 use Rattle.std.specs.declared.result.Result.{Result}
 use Rattle.std.specs.declared.result.Result.the-variants.{Ok, Err}
 use Rattle.fault.specs.declared.Fault.{Fault}
-use Rattle.fault.specs.declared.Refusal.{Refusal}
-use Rattle.fault.specs.declared.Refusal.the-variants.{VariableAboveHeader, ClauseListFull, UnexpectedEnd, ClauseCount}
-use Rattle.dimacs.specs.declared.Header.{Header}
+use Rattle.fault.specs.declared.Refusal.the-variants.{VariableAboveHeader, ClauseListFull, ClauseCount}
 use Rattle.dimacs.specs.declared.Machine.{Machine}
 use Rattle.dimacs.specs.declared.State.{State}
 use Rattle.dimacs.specs.declared.Summary.{Summary}
@@ -86,7 +83,8 @@ module _ (n k : ℕ) (few : n < 1_000_000_000) (listed closed : ℕ) (inside : B
         over = x .over;
         count = omega (arith, x .count);
         says = x .says ∙ ap (λ (v : ℕ). record { variables = n; clauses = k; numbers = v }) far;
-        leaves = x .leaves }
+        leaves = x .leaves;
+      }
 
   listed-fails : (z : ℤ) (w : List ℕ) → w ≡ signed z → natAbs z ≤ n → listed < length list
       → Fails n k (listed + 1) (closed + cond (closes z) 1 0) (not (closes z)) (set list listed z) ws
@@ -113,8 +111,10 @@ module _ (n k : ℕ) (few : n < 1_000_000_000) (listed closed : ℕ) (inside : B
     where
       first : w ≡ signed y
       first = cc
+
       p : natAbs y ≤ n
       p = within-first n y ys within .0
+
       by : (size < 1_000_000_000) ⊎ (1_000_000_000 ≤ size) → ⊥
       by (inl lt) =
           let same : y ≡ literalOf negative size = same-signed y (literalOf negative size) (omega (arith, p)) (omega (arith, variable-literal negative size)) (sym first ∙ sp .same lt) in
@@ -129,10 +129,10 @@ module _ (n k : ℕ) (few : n < 1_000_000_000) (listed closed : ℕ) (inside : B
     put-decided : (from : ℕ) (negative : Bool) (size : ℕ) (s : State) (w : List ℕ) → Ready s → Spelled w negative size
         → (t : Bool) → ltb n size ≡ t → (u : Bool) → leb (length list) listed ≡ u
         → Decided n k listed closed inside list (w ∷ ws)
-          (following
-           (cond t (Err (faultAt VariableAboveHeader from)) (cond u (Err (faultAt ClauseListFull from)) (Ok (machine n k s (listed + 1) (closed + cond (eqb size 0) 1 0) (not (eqb size 0))))))
-           (cond t list (set list listed (literalOf negative size)))
-           (K (cond t list (set list listed (literalOf negative size)))))
+        (following
+        (cond t (Err (faultAt VariableAboveHeader from)) (cond u (Err (faultAt ClauseListFull from)) (Ok (machine n k s (listed + 1) (closed + cond (eqb size 0) 1 0) (not (eqb size 0))))))
+        (cond t list (set list listed (literalOf negative size)))
+        (K (cond t list (set list listed (literalOf negative size)))))
     put-decided from negative size s w ready sp true p u q = above-fails w negative size sp (ltb-true n size p)
     put-decided from negative size s w ready sp false p true q = full-fails w (leb-true (length list) listed q)
     put-decided from negative size s w ready sp false p false q =
@@ -142,20 +142,20 @@ module _ (n k : ℕ) (few : n < 1_000_000_000) (listed closed : ℕ) (inside : B
         let r : Reading = K (set list listed z) (machine n k s (listed + 1) (closed + cond (eqb size 0) 1 0) (not (eqb size 0))) in
         listed-decided z w (sp .same (omega arith)) (omega arith) (leb-false (length list) listed q) (r .answer) (r .list)
         (subst (λ (x : ℕ). Decided n k (listed + 1) (closed + cond (eqb x 0) 1 0) (not (eqb x 0)) (set list listed z) ws r) (sym v)
-         (rest s (listed + 1) (closed + cond (eqb size 0) 1 0) (not (eqb size 0)) (set list listed z) (omega (arith, length-set list listed z, leb-false (length list) listed q)) ready))
+        (rest s (listed + 1) (closed + cond (eqb size 0) 1 0) (not (eqb size 0)) (set list listed z) (omega (arith, length-set list listed z, leb-false (length list) listed q)) ready))
 
     -- a step that fits leaves the rest to decide
     pub stepped : (was : State) (o : List (List ℕ)) (step : Step) → listed ≤ length list → Fits Ready o ws step
         → Decided n k listed closed inside list (o ++ ws)
-          (following (applied (machine n k was listed closed inside) step (length list)) (listedBy (machine n k was listed closed inside) step list) (K (listedBy (machine n k was listed closed inside) step list)))
+        (following (applied (machine n k was listed closed inside) step (length list)) (listedBy (machine n k was listed closed inside) step list) (K (listedBy (machine n k was listed closed inside) step list)))
     stepped was o (go s) h fits =
         subst (λ (x : List (List ℕ)). Decided n k listed closed inside list (x ++ ws) (K list (machine n k s listed closed inside))) (sym (fits .1)) (rest s listed closed inside list h (fits .0))
     stepped was o (head a b) h fits = absurd fits
     stepped was o (put from negative size s) h fits =
         subst
         (λ (x : List (List ℕ)). Decided n k listed closed inside list (x ++ ws)
-            (following (applied (machine n k was listed closed inside) (put from negative size s) (length list)) (listedBy (machine n k was listed closed inside) (put from negative size s) list)
-             (K (listedBy (machine n k was listed closed inside) (put from negative size s) list))))
+        (following (applied (machine n k was listed closed inside) (put from negative size s) (length list)) (listedBy (machine n k was listed closed inside) (put from negative size s) list)
+        (K (listedBy (machine n k was listed closed inside) (put from negative size s) list))))
         (sym (fits .1 .1))
         (put-decided from negative size s (fits .1 .0) (fits .0) (fits .1 .2) (ltb n size) refl (leb (length list) listed) refl)
     stepped was o (stop refusal place) h fits = λ zs q within room over count. fits n zs few within q
@@ -184,7 +184,8 @@ closed-decided n k listed closed false list s at h = by (eqb closed k) refl
           over = refl;
           count = omega arith;
           says = ap (λ (c : ℕ). record { variables = n; clauses = c; numbers = listed }) same ∙ ap (λ (l : ℕ). record { variables = n; clauses = k; numbers = l }) far;
-          leaves = refl }
+          leaves = refl;
+        }
     by false e = λ zs q within room over count. eqb-false closed k e (omega (arith, subst (λ (x : List ℤ). closed + closings x ≡ k) (none-come zs q) count))
 
 -- the end's answer is a step's

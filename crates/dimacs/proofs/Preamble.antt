@@ -1,14 +1,14 @@
 -- The reader in the lines before the header: it passes just comments and blanks.
-use Prim.Native.Nat.{ℕ, zero, suc, _+_, _-_, _*_, _≤_, _<_}
+use Prim.Native.Nat.{ℕ, _+_, _≤_, _<_}
 use mathlib.Core.Path.{_≡_, refl, sym, ap, subst, _∙_}
-use mathlib.Core.Bool.{Bool, true, false, cond, not, _&&_, _||_}
+use mathlib.Core.Bool.{Bool, true, false, cond}
 use mathlib.Core.Logic.{_⊎_, inl, inr}
-use mathlib.Core.List.{List, [], _∷_, _++_, append-nil, append-assoc}
+use mathlib.Core.List.{List, [], _∷_, _++_, append-nil}
 use native.Mathlib.Omega.{arith}
-use lib.Dec.{eqb, leb, ltb}
+use lib.Dec.{eqb}
 use lib.IntN.{ℤ}
 use lib.ListN.{length, getD, length-append}
-use Rattle.std.proofs.shelf.Tests.{true≢false, cond-true, cond-false, cases-bool, eqb-true, ne-eqb, and-parts}
+use Rattle.std.proofs.shelf.Tests.{true≢false, cond-true, cond-false, cases-bool, eqb-true, and-parts}
 use Rattle.std.proofs.shelf.Ways.{tells}
 use Rattle.std.specs.Text.{asciiDigit}
 use Rattle.std.specs.Written.{decimal}
@@ -19,10 +19,10 @@ use Rattle.dimacs.specs.declared.Class.the-variants.{Space, OtherBlank, LineFe
 use Rattle.dimacs.specs.declared.State.{State}
 use Rattle.dimacs.specs.declared.State.the-variants.{LineStart, Gap, Comment, Keyword}
 use Rattle.dimacs.specs.Bytes.{isFeed, isBlank, classOf}
-use Rattle.dimacs.specs.File.{split, nonempty, lines, words, isComment, wordsOutside, headerLine}
-use Rattle.dimacs.specs.Steps.{go, stop, stepOf, onGap}
+use Rattle.dimacs.specs.File.{lines, words, isComment, wordsOutside, headerLine}
+use Rattle.dimacs.specs.Steps.{go, stop, stepOf}
 use Rattle.dimacs.specs.Reading.{Reading, readOn}
-use Rattle.dimacs.proofs.Scan.{first, others, feeds, blanks, notes, feeds-is, blanks-is, notes-is, split-is, lines-passed, words-is, wordsAfter, wordsAfter-blank, wordsAfter-more}
+use Rattle.dimacs.proofs.Scan.{blank-no-note, first, others, feeds, blanks, notes, feeds-is, blanks-is, notes-is, split-is, lines-passed, words-is, wordsAfter, wordsAfter-blank, wordsAfter-more}
 use Rattle.dimacs.proofs.Numbered.{machine}
 use Rattle.dimacs.proofs.HeaderLine.{early, Refused, Headed, heads, misses, go-step, stop-step, stop-end, header-decided, decimal-digits}
 
@@ -96,9 +96,6 @@ outside-parts b l ls h e =
     let p = both-empty (cond (eqb b 99) [] (words (b ∷ l))) (wordsOutside ls) e in
     (sym (cond-false (eqb b 99) [] (words (b ∷ l)) h) ∙ p .0, p .1)
 
-blank-no-c : (b : ℕ) → isBlank b ≡ true → eqb b 99 ≡ false
-blank-no-c b h = grind (arith, tells)
-
 blank-no-p : (b : ℕ) → isBlank b ≡ true → b ≡ 112 → ⊥
 blank-no-p b h e = grind (arith, tells)
 
@@ -141,9 +138,11 @@ passed l ls n k body no-p a = by (a .0) (a .1) (a .2)
         (append-nil (wordsIn l) ∙ ap wordsIn (sym h) ∙ p .0, (before, t, p .1))
 
 pass : (l : List ℕ) (ls : List (List ℕ)) (n k : ℕ) (body : List (List ℕ)) → wordsOutside (l ∷ []) ≡ [] → After ls n k body → After (l ∷ ls) n k body
-pass l ls n k body h a =
-    (l ∷ a .0, ap (λ (x : List (List ℕ)). l ∷ x) (a .1),
-    ap (λ (x : List (List ℕ)). x ++ wordsOutside (a .0)) (sym (append-nil (wordsIn l)) ∙ h) ∙ a .2)
+pass l ls n k body h a = (
+  l ∷ a .0,
+  ap (λ (x : List (List ℕ)). l ∷ x) (a .1),
+  ap (λ (x : List (List ℕ)). x ++ wordsOutside (a .0)) (sym (append-nil (wordsIn l)) ∙ h) ∙ a .2,
+)
 
 -- a byte within a line
 module _ (b : ℕ) (bs : List ℕ) (unfed : isFeed b ≡ false) (n k : ℕ) (body : List (List ℕ)) where
@@ -162,12 +161,12 @@ module _ (b : ℕ) (bs : List ℕ) (unfed : isFeed b ≡ false) (n k : ℕ) (bod
   start-gap : isBlank b ≡ true → Located atStart (b ∷ bs) n k body → Located inGap bs n k body
   start-gap h a =
       let p = passed (b ∷ first (lines bs)) (others (lines bs)) n k body (λ e. blank-no-p b h e) (at-line a) in
-      (sym (words-blank b (first (lines bs)) h) ∙ outside-parts b (first (lines bs)) [] (blank-no-c b h) (p .0) .0, p .1)
+      (sym (words-blank b (first (lines bs)) h) ∙ outside-parts b (first (lines bs)) [] (blank-no-note b h) (p .0) .0, p .1)
 
   gap-start : isBlank b ≡ true → Located inGap bs n k body → Located atStart (b ∷ bs) n k body
   gap-start h a =
       to-line (pass (b ∷ first (lines bs)) (others (lines bs)) n k body
-       (append-nil (wordsIn (b ∷ first (lines bs))) ∙ cond-false (eqb b 99) [] (words (b ∷ first (lines bs))) (blank-no-c b h) ∙ words-blank b (first (lines bs)) h ∙ a .0) (a .1))
+      (append-nil (wordsIn (b ∷ first (lines bs))) ∙ cond-false (eqb b 99) [] (words (b ∷ first (lines bs))) (blank-no-note b h) ∙ words-blank b (first (lines bs)) h ∙ a .0) (a .1))
 
   start-comment : eqb b 99 ≡ true → Located atStart (b ∷ bs) n k body → Located inComment bs n k body
   start-comment h a = passed (b ∷ first (lines bs)) (others (lines bs)) n k body (λ e. omega (arith, eqb-true b 99 h)) (at-line a) .1

@@ -1,17 +1,16 @@
 -- The words outside comments, found byte by byte.
 use Prim.Native.Nat.{ℕ}
 use mathlib.Core.Path.{_≡_, refl, sym, ap, subst, _∙_}
-use mathlib.Core.Bool.{Bool, true, false, cond, _||_}
-use mathlib.Core.Logic.{_⊎_, inl, inr}
+use mathlib.Core.Bool.{Bool, true, false, cond}
 use mathlib.Core.List.{List, [], _∷_, _++_, append-nil, append-assoc}
 use native.Mathlib.Omega.{arith}
 use lib.Dec.{eqb}
-use Rattle.std.proofs.shelf.Tests.{cond-true, cond-false, cases-bool, eqb-true, or-left, or-right}
+use Rattle.std.proofs.shelf.Tests.{cond-true, cond-false, eqb-true}
 use Rattle.std.proofs.shelf.Ways.{tells}
 use Rattle.dimacs.specs.declared.Class.{Class}
 use Rattle.dimacs.specs.declared.Class.the-variants.{Space, OtherBlank, LineFeed, Minus, Digit, C, N, F, P, Other}
 use Rattle.dimacs.specs.Bytes.{isFeed, isBlank, classOf}
-use Rattle.dimacs.specs.File.{onto, split, nonempty, lines, words, isComment, wordsOutside}
+use Rattle.dimacs.specs.File.{onto, split, nonempty, lines, words, wordsOutside}
 
 -- the first piece and the others
 abbrev pub first : List (List ℕ) → List ℕ
@@ -154,9 +153,6 @@ words-is l = ap nonempty (split-is isBlank l)
 pub lines-passed : (b : ℕ) (bs : List ℕ) → isFeed b ≡ false → lines (b ∷ bs) ≡ (b ∷ first (lines bs)) ∷ others (lines bs)
 lines-passed b bs h = split-passed isFeed b bs h
 
-outside-fresh : (bs : List ℕ) → wordsOutside (lines bs) ≡ wordsOutside (first (lines bs) ∷ others (lines bs))
-outside-fresh bs = ap wordsOutside (split-is isFeed bs)
-
 feed-step : (c : Carry) (bs : List ℕ) → ends c LineFeed ++ wordsFrom fresh bs ≡ wordsFrom c (10 ∷ bs)
 feed-step fresh bs = refl
 feed-step noted bs = refl
@@ -169,7 +165,7 @@ line-step b l ls h = ap (λ (ws : List (List ℕ)). ws ++ wordsOutside ls) (sym 
 note-step : (b : ℕ) (l : List ℕ) (ls : List (List ℕ)) → eqb b 99 ≡ true → wordsOutside ls ≡ wordsOutside ((b ∷ l) ∷ ls)
 note-step b l ls h = ap (λ (ws : List (List ℕ)). ws ++ wordsOutside ls) (sym (cond-true (eqb b 99) [] (words (b ∷ l)) h))
 
-blank-no-note : (b : ℕ) → isBlank b ≡ true → eqb b 99 ≡ false
+pub blank-no-note : (b : ℕ) → isBlank b ≡ true → eqb b 99 ≡ false
 blank-no-note b h = grind (arith, tells)
 
 -- within a line
@@ -178,11 +174,13 @@ passed-step fresh b bs f = blankness (isBlank b) refl (eqb b 99) refl
   where
     here : wordsOutside (lines (b ∷ bs)) ≡ wordsOutside ((b ∷ first (lines bs)) ∷ others (lines bs))
     here = ap wordsOutside (lines-passed b bs f)
+
     to : (t u : Bool) → isBlank b ≡ t → eqb b 99 ≡ u → turn fresh (classOf b) b ≡ cond t (word []) (cond u noted (word (b ∷ [])))
     to t u k e =
         cond-false (feeds (classOf b)) _ _ (feeds-is b ∙ f)
         ∙ ap (λ (x : Bool). cond x (word []) (cond (notes (classOf b)) noted (word (b ∷ [])))) (blanks-is b ∙ k)
         ∙ ap (λ (x : Bool). cond t (word []) (cond x noted (word (b ∷ [])))) (notes-is b ∙ e)
+
     blankness : (t : Bool) → isBlank b ≡ t → (u : Bool) → eqb b 99 ≡ u → wordsFrom (turn fresh (classOf b) b) bs ≡ wordsOutside (lines (b ∷ bs))
     blankness true k u e =
         ap (λ (x : Carry). wordsFrom x bs) (to true u k e)
@@ -202,10 +200,13 @@ passed-step (word w) b bs f = blankness (isBlank b) refl
   where
     here : wordsFrom (word w) (b ∷ bs) ≡ wordsAfter w (b ∷ first (lines bs)) ++ wordsOutside (others (lines bs))
     here = ap (λ (ps : List (List ℕ)). wordsAfter w (first ps) ++ wordsOutside (others ps)) (lines-passed b bs f)
+
     to : (t : Bool) → isBlank b ≡ t → turn (word w) (classOf b) b ≡ cond t (word []) (word (w ++ b ∷ []))
     to t k = cond-false (feeds (classOf b)) _ _ (feeds-is b ∙ f) ∙ ap (λ (x : Bool). cond x (word []) (word (w ++ b ∷ []))) (blanks-is b ∙ k)
+
     ended : (t : Bool) → isBlank b ≡ t → ends (word w) (classOf b) ≡ cond t (kept w) []
     ended t k = ap (λ (x : Bool). cond x (kept w) []) (blanks-is b ∙ k)
+
     blankness : (t : Bool) → isBlank b ≡ t → ends (word w) (classOf b) ++ wordsFrom (turn (word w) (classOf b) b) bs ≡ wordsFrom (word w) (b ∷ bs)
     blankness true k =
         ap (λ (x : Carry). ends (word w) (classOf b) ++ wordsFrom x bs) (to true k)
@@ -229,6 +230,7 @@ step-is c b bs = feedness (isFeed b) refl
         at-ten fresh = feed-step fresh bs
         at-ten noted = feed-step noted bs
         at-ten (word w) = feed-step (word w) bs
+
     feedness : (t : Bool) → isFeed b ≡ t → ends c (classOf b) ++ wordsFrom (turn c (classOf b) b) bs ≡ wordsFrom c (b ∷ bs)
     feedness true f = feed b (eqb-true b 10 f)
     feedness false f = passed-step c b bs f
@@ -263,13 +265,17 @@ scan-begins (b ∷ bs) a w = by (blanks (classOf b)) refl (scan-begins bs a (w +
     by : (t : Bool) → blanks (classOf b) ≡ t
         → ((more : List ℕ) × (rest : List (List ℕ)) × (scan (word (a ∷ (w ++ b ∷ []))) bs ≡ ((a ∷ (w ++ b ∷ [])) ++ more) ∷ rest))
         → (more : List ℕ) × (rest : List (List ℕ)) × (scan (word (a ∷ w)) (b ∷ bs) ≡ ((a ∷ w) ++ more) ∷ rest)
-    by true k ih =
-        ([], scan (turn (word (a ∷ w)) (classOf b) b) bs,
-        ap (λ (t : Bool). cond t ((a ∷ w) ∷ []) [] ++ scan (turn (word (a ∷ w)) (classOf b) b) bs) k
-        ∙ ap (λ (v : List ℕ). (a ∷ v) ∷ scan (turn (word (a ∷ w)) (classOf b) b) bs) (sym (append-nil w)))
-    by false k ih =
-        (b ∷ ih .0, ih .1,
-        ap (λ (t : Bool). cond t ((a ∷ w) ∷ []) [] ++ scan (cond (feeds (classOf b)) fresh (cond t (word []) (word (a ∷ (w ++ b ∷ []))))) bs) k
-        ∙ ap (λ (t : Bool). scan (cond t fresh (word (a ∷ (w ++ b ∷ [])))) bs) (no-feed (classOf b) k)
-        ∙ ih .2
-        ∙ ap (λ (v : List ℕ). (a ∷ v) ∷ ih .1) (append-assoc w (b ∷ []) (ih .0)))
+    by true k ih = (
+      [],
+      scan (turn (word (a ∷ w)) (classOf b) b) bs,
+      ap (λ (t : Bool). cond t ((a ∷ w) ∷ []) [] ++ scan (turn (word (a ∷ w)) (classOf b) b) bs) k
+          ∙ ap (λ (v : List ℕ). (a ∷ v) ∷ scan (turn (word (a ∷ w)) (classOf b) b) bs) (sym (append-nil w)),
+    )
+    by false k ih = (
+      b ∷ ih .0,
+      ih .1,
+      ap (λ (t : Bool). cond t ((a ∷ w) ∷ []) [] ++ scan (cond (feeds (classOf b)) fresh (cond t (word []) (word (a ∷ (w ++ b ∷ []))))) bs) k
+          ∙ ap (λ (t : Bool). scan (cond t fresh (word (a ∷ (w ++ b ∷ [])))) bs) (no-feed (classOf b) k)
+          ∙ ih .2
+          ∙ ap (λ (v : List ℕ). (a ∷ v) ∷ ih .1) (append-assoc w (b ∷ []) (ih .0)),
+    )

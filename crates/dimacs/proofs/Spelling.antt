@@ -1,24 +1,22 @@
 -- The words that numbers are written as.
 use Prim.Native.Nat.{ℕ, zero, suc, _+_, _-_, _*_, _≤_, _<_, _^_}
 use mathlib.Core.Path.{_≡_, refl, sym, ap, subst, _∙_}
-use mathlib.Core.Bool.{Bool, true, false, cond, not, _&&_}
-use mathlib.Core.Logic.{_⊎_, inl, inr}
-use mathlib.Core.List.{List, [], _∷_, _++_, map, append-nil, append-assoc}
+use mathlib.Core.Bool.{Bool, true, false, cond}
+use mathlib.Core.List.{List, [], _∷_, _++_}
 use native.Mathlib.Omega.{arith}
 use borrow.Author.Needs.{needs}
-use lib.Dec.{eqb, leb, ltb}
+use lib.Dec.{ltb}
 use lib.IntN.{ℤ, pos, negsuc, negℤ, natAbs}
 use lib.Signed.{mag}
-use lib.ListN.{length, getD, drop, length-append}
-use Rattle.std.proofs.shelf.Tests.{cond-true, cond-false, le-leb, lt-leb, leb-true, leb-false, ltb-true, ltb-false, le-ltb, and-parts, and-from, eq-eqb, ne-eqb, cases-eq, cases-lt, both-ways}
+use lib.ListN.{length, getD, length-append}
+use Rattle.std.proofs.shelf.Tests.{cond-false, ltb-true, ltb-false, le-ltb, and-parts, and-from}
 use Rattle.std.proofs.shelf.Ways.{tells}
 use Rattle.std.proofs.shelf.Numerals.{Numerals, numerals-by-fold}
 use Rattle.std.proofs.shelf.Decimals.{digits-decimal, value-decimal, decimal-digit, decimal-some, first-decimal, decimal-value, same-from-signed}
 use Rattle.std.specs.shelf.Text.{allDigits}
 use Rattle.std.specs.Text.{asciiDigit}
 use Rattle.std.specs.Written.{decimal, signed}
-use Rattle.dimacs.specs.declared.Class.{Class}
-use Rattle.dimacs.specs.declared.Class.the-variants.{Space, OtherBlank, LineFeed, Minus, Digit, C, N, F, P, Other}
+use Rattle.dimacs.specs.declared.Class.the-variants.{Digit}
 use Rattle.dimacs.specs.Bytes.{classOf}
 use Rattle.dimacs.specs.Reading.{literalOf}
 use Rattle.dimacs.specs.Steps.{grown}
@@ -159,6 +157,7 @@ sized-push ds size c d (exact e h) = by (ltb size 100_000_000) refl
   where
     more : valueOn 0 (ds ++ c ∷ []) ≡ 10 * size + (c - 48)
     more = value-append 0 ds (c ∷ []) ∙ ap (λ (v : ℕ). 10 * v + (c - 48)) e
+
     by : (t : Bool) → ltb size 100_000_000 ≡ t → Sized (ds ++ c ∷ []) (cond t (10 * size + (c - 48)) 1_000_000_000)
     by true q = exact more (omega (arith, digit-bounds c d .1, ltb-true size 100_000_000 q))
     by false q = over refl (omega (arith, more, ltb-false size 100_000_000 q))

@@ -1,36 +1,32 @@
 -- A text is read without a fault exactly if it is a file with room in the list; what is written reads back.
-use Prim.Native.Nat.{ℕ, zero, suc, _+_, _≤_, _<_, _^_}
+use Prim.Native.Nat.{ℕ, _+_, _≤_, _<_}
 use mathlib.Core.Path.{_≡_, refl, sym, ap, subst, _∙_}
-use mathlib.Core.Bool.{Bool, true, false, cond, _||_}
-use mathlib.Core.Logic.{_⊎_, inl, inr}
-use mathlib.Core.List.{List, [], _∷_, _++_, map, append-assoc}
+use mathlib.Core.Bool.{false}
+use mathlib.Core.List.{List, [], _∷_, _++_, map}
 use native.Mathlib.Nat.{zero-add}
 use native.Mathlib.Omega.{arith}
-use lib.Dec.{eqb, ltb}
-use lib.IntN.{ℤ, pos, natAbs}
-use lib.ListN.{length, drop, length-map}
+use lib.IntN.{ℤ}
+use lib.ListN.{length, drop}
 use Rattle.std.proofs.shelf.Decimals.{same-from-decimal}
 use Rattle.std.proofs.shelf.Lists.{append-cancel-left}
-use Rattle.std.proofs.shelf.Tests.{true≢false, cond-true, cond-false, cases-bool, ltb-false, or-parts}
+use Rattle.std.proofs.shelf.Tests.{true≢false}
 use Rattle.std.specs.Written.{decimal, signed}
-use Rattle.std.specs.Results.{Cases}
 use Rattle.std.specs.declared.result.Result.{Result}
 use Rattle.std.specs.declared.result.Result.the-variants.{Ok, Err}
 use Rattle.fault.specs.declared.Fault.{Fault}
 use Rattle.dimacs.specs.declared.State.the-variants.{LineStart}
 use Rattle.dimacs.specs.declared.Summary.{Summary}
 use Rattle.dimacs.specs.Bytes.{isFeed}
-use Rattle.dimacs.specs.Clauses.{numbers, ClausesOf, closings, exceeds, unclosed}
-use Rattle.dimacs.specs.File.{lines, words, wordsOutside, headerLine, File}
+use Rattle.dimacs.specs.Clauses.{numbers, closings, exceeds}
+use Rattle.dimacs.specs.File.{lines, wordsOutside, headerLine, File}
 use Rattle.dimacs.specs.Reading.{Reading, reading, readOn}
-use Rattle.dimacs.specs.Written.{textOf, writeRefusal}
-use Rattle.dimacs.specs.Laws.{Holds, NoFile, AcceptsFiles, readAs, ReadsBack, EveryTextDecided, EveryWritingReadsBack}
-use Rattle.dimacs.proofs.Scan.{Carry, fresh, word, scan, scan-is, split-is, first, others}
-use Rattle.dimacs.proofs.Numbered.{machine, Reads, Fails, Decided, endsInside}
+use Rattle.dimacs.specs.Laws.{Holds, NoFile, AcceptsFiles, EveryTextDecided}
+use Rattle.dimacs.proofs.Scan.{fresh, scan, scan-is, split-is}
+use Rattle.dimacs.proofs.Numbered.{machine, Reads, Fails, Decided}
 use Rattle.dimacs.proofs.Body.{body-decided}
-use Rattle.dimacs.proofs.HeaderLine.{early, digits-same, decimal-digits}
-use Rattle.dimacs.proofs.Preamble.{atStart, After, Found, finds, lacks, header-found, header-lines, words-some, outside-parts, outside-rest}
-use Rattle.dimacs.proofs.Gathering.{Gathered, gather, numbers-within, numbers-over, numbers-count, unclosed-is, putAll-start, same-words}
+use Rattle.dimacs.proofs.HeaderLine.{digits-same, decimal-digits}
+use Rattle.dimacs.proofs.Preamble.{atStart, After, Found, finds, lacks, header-found, words-some, outside-parts, outside-rest}
+use Rattle.dimacs.proofs.Gathering.{Gathered, gather, clauses-same, numbers-within, numbers-over, numbers-count, putAll-start, same-words}
 
 -- ---- a text is at most one file
 
@@ -63,20 +59,13 @@ located-once (x ∷ before) (y ∷ after) body rest n k m j few some few′ some
     let t : before ++ headerLine n k ∷ body ≡ after ++ headerLine m j ∷ rest = cc in
     located-once before after body rest n k m j few some few′ some′ (outside-rest x before p) (outside-rest y after q) t
 
--- two ways to take a text for a file agree in n, in the number of clauses and in the numbers
-pub record Alike (n m : ℕ) (cs ds : List (List ℤ)) : Type 0 where
-  pub variables : n ≡ m
-  pub count : length cs ≡ length ds
-  pub same : numbers cs ≡ numbers ds
-
-pub one-file : (text : List ℕ) (n m : ℕ) (cs ds : List (List ℤ)) → File text n cs → File text m ds → Alike n m cs ds
+-- a text is a file in one way at most
+pub one-file : (text : List ℕ) (n m : ℕ) (cs ds : List (List ℤ)) → File text n cs → File text m ds → (n ≡ m) × (cs ≡ ds)
 one-file text n m cs ds f g =
     let o = located-once (f .before) (g .before) (f .body) (g .body) n (length cs) m (length ds) (f .few-variables) (f .few-clauses) (g .few-variables) (g .few-clauses) (f .header-first) (g .header-first) (sym (f .lined) ∙ g .lined) in
-    record {
-      variables = o .0;
-      count = o .1;
-      same = same-words n m (numbers cs) (numbers ds) (f .few-variables) (g .few-variables) (numbers-within n cs (f .literals)) (numbers-within m ds (g .literals))
-        (sym (f .worded) ∙ ap wordsOutside (o .2) ∙ g .worded) }
+    let w : map signed (numbers cs) ≡ map signed (numbers ds) = sym (f .worded) ∙ ap wordsOutside (o .2) ∙ g .worded in
+    let z = same-words n m (numbers cs) (numbers ds) (f .few-variables) (g .few-variables) (numbers-within n cs (f .literals)) (numbers-within m ds (g .literals)) w in
+    (o .0, clauses-same n m cs ds (f .literals) (g .literals) z)
 
 -- ---- every text is decided
 
@@ -99,19 +88,23 @@ module _ (text : List ℕ) (list : List ℤ) (n k : ℕ) (rest : List ℕ) (few 
           worded = sym (scan-is rest fresh) ∙ x .worded ∙ ap (map signed) (sym (g .same));
           few-variables = few;
           few-clauses = omega (arith, counted);
-          literals = g .literals };
+          literals = g .literals;
+        };
         counts = counted;
         lists = listed;
         room = x .room;
         leaves =
-          x .leaves ∙ putAll-start (x .zs) list (omega (arith, x .room))
-          ∙ ap (λ (l : ℕ). x .zs ++ drop l list) (sym (zero-add (length (x .zs))))
-          ∙ ap (λ (l : List ℤ). l ++ drop (0 + length (x .zs)) list) (sym (g .same)) })
+            x .leaves ∙ putAll-start (x .zs) list (omega (arith, x .room))
+            ∙ ap (λ (l : ℕ). x .zs ++ drop l list) (sym (zero-add (length (x .zs))))
+            ∙ ap (λ (l : List ℤ). l ++ drop (0 + length (x .zs)) list) (sym (g .same));
+      })
     where
       g : Gathered n (x .zs) false
       g = gather n (x .zs) false (x .within) (x .over)
+
       counted : k ≡ length (g .clauses)
       counted = sym (x .count) ∙ zero-add (closings (x .zs)) ∙ sym (g .count)
+
       listed : 0 + length (x .zs) ≡ length (numbers (g .clauses))
       listed = zero-add (length (x .zs)) ∙ ap length (sym (g .same))
 

@@ -1,5 +1,5 @@
 -- What the writer accepts is a file, and reads back.
-use Prim.Native.Nat.{ℕ, zero, suc, _+_, _≤_, _<_, _^_}
+use Prim.Native.Nat.{ℕ, _≤_, _<_}
 use mathlib.Core.Path.{_≡_, refl, sym, ap, subst, _∙_}
 use mathlib.Core.Bool.{Bool, true, false, cond, _||_}
 use mathlib.Core.List.{List, [], _∷_, _++_, map, append-nil, append-assoc}
@@ -10,7 +10,7 @@ use lib.ListN.{length, drop}
 use Rattle.std.proofs.shelf.Tests.{and-parts, ltb-false, or-parts}
 use Rattle.std.specs.Joined.{joined}
 use Rattle.std.specs.Text.{asciiDigit}
-use Rattle.std.specs.Written.{decimal, signed}
+use Rattle.std.specs.Written.{signed}
 use Rattle.std.specs.shelf.Text.{allDigits}
 use Rattle.std.specs.declared.option.Option.{Option}
 use Rattle.std.specs.declared.option.Option.the-variants.{Some, None}
@@ -18,21 +18,20 @@ use Rattle.std.specs.declared.result.Result.{Result}
 use Rattle.std.specs.declared.result.Result.the-variants.{Ok, Err}
 use Rattle.fault.specs.declared.Fault.{Fault}
 use Rattle.fault.specs.declared.Refusal.{Refusal}
-use Rattle.fault.specs.declared.Refusal.the-variants.{MalformedHeader, VariableAboveHeader, UnexpectedEnd, BufferShort}
-use Rattle.dimacs.specs.declared.Class.{Class}
+use Rattle.fault.specs.declared.Refusal.the-variants.{MalformedHeader, VariableAboveHeader, UnexpectedEnd}
 use Rattle.dimacs.specs.declared.Summary.{Summary}
 use Rattle.dimacs.specs.Bytes.{classOf}
 use Rattle.dimacs.specs.Clauses.{numbers, closes, closings, exceeds, unclosed}
-use Rattle.dimacs.specs.File.{lines, wordsOutside, headerLine, File}
+use Rattle.dimacs.specs.File.{lines, headerLine, File}
 use Rattle.dimacs.specs.Reading.{Reading, reading}
 use Rattle.dimacs.specs.Written.{spaced, textOf, writeRefusal}
-use Rattle.dimacs.specs.Laws.{Holds, AcceptsFiles, readAs, EveryWritingReadsBack}
+use Rattle.dimacs.specs.Laws.{AcceptsFiles, readAs, EveryWritingReadsBack}
 use Rattle.dimacs.proofs.Scan.{Carry, fresh, noted, word, kept, scan, scan-is, feeds, blanks, notes, no-feed}
 use Rattle.dimacs.proofs.Spelling.{Led, Form, nought, plain, minus, form, class-digit}
-use Rattle.dimacs.proofs.Numbered.{within-first, endsInside}
+use Rattle.dimacs.proofs.Numbered.{within-first}
 use Rattle.dimacs.proofs.Preamble.{header-lines}
 use Rattle.dimacs.proofs.Gathering.{Gathered, gather, unclosed-is}
-use Rattle.dimacs.proofs.Texts.{Alike, one-file, lines-some, every-text-decided}
+use Rattle.dimacs.proofs.Texts.{one-file, lines-some, every-text-decided}
 
 -- ---- the words that are written
 
@@ -124,23 +123,27 @@ writable n zs room e =
       few-variables = omega (arith, ltb-false 999_999_999 n (p .0));
       few-clauses = ltb-false 1_000_000 (closings zs) (p .1);
       within = b .0;
-      over = c .0 }
+      over = c .0;
+    }
 
 pub written-file : (n : ℕ) (zs : List ℤ) → Writable n zs → (cs : List (List ℤ)) × File (textOf n zs) n cs × (numbers cs ≡ zs) × (length cs ≡ closings zs)
 written-file n zs w =
-    let g : Gathered n zs false = gather n zs false (w .within) (unclosed-is zs ∙ w .over) in
-    (g .clauses,
-    record {
-      before = [];
-      body = lines (joined spaced zs);
-      lined = header-lines n (closings zs) (joined spaced zs) (w .few-variables) (w .few-clauses) ∙ ap (λ (k : ℕ). headerLine n k ∷ lines (joined spaced zs)) (sym (g .count));
-      header-first = refl;
-      header-ends = lines-some (joined spaced zs);
-      worded = sym (scan-is (joined spaced zs) fresh) ∙ written-words n (w .few-variables) zs true (w .within) ∙ ap (map signed) (sym (g .same));
-      few-variables = w .few-variables;
-      few-clauses = omega (arith, g .count, w .few-clauses);
-      literals = g .literals },
-    g .same, g .count)
+    let g : Gathered n zs false = gather n zs false (w .within) (unclosed-is zs ∙ w .over) in (
+      g .clauses,
+      record {
+        before = [];
+        body = lines (joined spaced zs);
+        lined = header-lines n (closings zs) (joined spaced zs) (w .few-variables) (w .few-clauses) ∙ ap (λ (k : ℕ). headerLine n k ∷ lines (joined spaced zs)) (sym (g .count));
+        header-first = refl;
+        header-ends = lines-some (joined spaced zs);
+        worded = sym (scan-is (joined spaced zs) fresh) ∙ written-words n (w .few-variables) zs true (w .within) ∙ ap (map signed) (sym (g .same));
+        few-variables = w .few-variables;
+        few-clauses = omega (arith, g .count, w .few-clauses);
+        literals = g .literals;
+      },
+      g .same,
+      g .count,
+    )
 
 -- ---- a file that the list has room for reads as what it holds
 
@@ -150,10 +153,11 @@ file-reads text n cs list file room = by (reading text list .answer) (reading te
     by : (a : Result Summary Fault) (after : List ℤ) → AcceptsFiles text list a after → _≡_ {A = Reading} (record { answer = a; list = after }) (readAs n (length cs) (numbers cs) list)
     by (Ok s) after h =
         let same = one-file text (s .variables) n (h .clauses) cs (h .file) file in
-        let count : s .clauses ≡ length cs = h .counts ∙ same .count in
-        let size : s .numbers ≡ length (numbers cs) = h .lists ∙ ap length (same .same) in
-        let left : after ≡ numbers cs ++ drop (length (numbers cs)) list = h .leaves ∙ ap (λ (x : List ℤ). x ++ drop (s .numbers) list) (same .same) ∙ ap (λ (k : ℕ). numbers cs ++ drop k list) size in
-        λ i. record { answer = Ok (record { variables = same .variables i; clauses = count i; numbers = size i }); list = left i }
+        let numbered : numbers (h .clauses) ≡ numbers cs = ap numbers (same .1) in
+        let count : s .clauses ≡ length cs = h .counts ∙ ap length (same .1) in
+        let size : s .numbers ≡ length (numbers cs) = h .lists ∙ ap length numbered in
+        let left : after ≡ numbers cs ++ drop (length (numbers cs)) list = h .leaves ∙ ap (λ (x : List ℤ). x ++ drop (s .numbers) list) numbered ∙ ap (λ (k : ℕ). numbers cs ++ drop k list) size in
+        λ i. record { answer = Ok (record { variables = same .0 i; clauses = count i; numbers = size i }); list = left i }
     by (Err f) after h = absurd (h n cs file room)
 
 pub every-writing-reads-back : EveryWritingReadsBack

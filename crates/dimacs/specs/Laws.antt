@@ -32,6 +32,10 @@ NoFile text list = (n : ℕ) (clauses : List (List ℤ)) → File text n clauses
 abbrev pub AcceptsFiles : List ℕ → List ℤ → Result Summary Fault → List ℤ → Type 0
 AcceptsFiles text before answer after = Cases answer (λ s. Holds text before s after) (λ f. NoFile text before)
 
+-- a text is a file in one way at most
+abbrev pub OneFile : List ℕ → Type 0
+OneFile text = (n m : ℕ) (cs ds : List (List ℤ)) → File text n cs → File text m ds → (n ≡ m) × (cs ≡ ds)
+
 -- what the reader makes of n and these numbers, into a list
 abbrev pub readAs : ℕ → ℕ → List ℤ → List ℤ → Reading
 readAs n k zs list = record { answer = Ok (record { variables = n; clauses = k; numbers = length zs }); list = zs ++ drop (length zs) list }

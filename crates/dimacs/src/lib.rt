@@ -25,14 +25,35 @@ pub enum State {
     Gap,
     Comment,
     // after the `p` of a header and the first `matched` bytes of ` cnf `
-    Keyword { from: usize, matched: u8 },
-    Variables { from: usize, value: u32 },
-    BeforeClauses { from: usize, variables: u32 },
-    Clauses { from: usize, variables: u32, value: u32 },
+    Keyword {
+        from: usize,
+        matched: u8,
+    },
+    Variables {
+        from: usize,
+        value: u32,
+    },
+    BeforeClauses {
+        from: usize,
+        variables: u32,
+    },
+    Clauses {
+        from: usize,
+        variables: u32,
+        value: u32,
+    },
     // after a minus
-    Sign { from: usize },
-    Zero { from: usize },
-    Number { from: usize, negative: bool, size: u32 },
+    Sign {
+        from: usize,
+    },
+    Zero {
+        from: usize,
+    },
+    Number {
+        from: usize,
+        negative: bool,
+        size: u32,
+    },
 }
 
 // What the line `p cnf n k` says.

@@ -63,8 +63,9 @@ pub record Wrote (out : List ℕ) (at : ℕ) (bytes : List ℕ) (after : List �
 pub wrote-then : (out : List ℕ) (at : ℕ) (xs : List ℕ) (mid : List ℕ) (next : ℕ) (ys after : List ℕ) (end : ℕ) → at + length xs ≤ length out
     → Wrote out at xs mid next → Wrote mid next ys after end → Wrote out at (xs ++ ys) after end
 wrote-then out at xs mid next ys after end h a b = record {
-    end-is = b .end-is ∙ ap (λ k. k + length ys) (a .end-is) ∙ simp length-append (omega arith);
-    after-is = b .after-is ∙ ap (λ k. overlaid mid k ys) (a .end-is) ∙ ap (λ l. overlaid l (at + length xs) ys) (a .after-is) ∙ overlaid-append out at xs ys h }
+  end-is = b .end-is ∙ ap (λ k. k + length ys) (a .end-is) ∙ simp length-append (omega arith);
+  after-is = b .after-is ∙ ap (λ k. overlaid mid k ys) (a .end-is) ∙ ap (λ l. overlaid l (at + length xs) ys) (a .after-is) ∙ overlaid-append out at xs ys h;
+}
 
 pub wrote-as : (out : List ℕ) (at : ℕ) (xs ys after : List ℕ) (end : ℕ) → xs ≡ ys → Wrote out at xs after end → Wrote out at ys after end
 wrote-as out at xs ys after end e a = subst (λ l. Wrote out at l after end) e a

@@ -37,7 +37,7 @@ one-digit n rest at digits p w h s e =
     let back : at - 1 + 1 ≡ at = omega arith in
     let small : rest / 10 < 2 ^ 64 = omega arith in
     let d : drop (at - 1) (set digits (at - 1) (48 + rest / 10 % 10)) ≡ (48 + rest / 10 % 10) ∷ drop at digits =
-        drop-set digits (at - 1) (48 + rest / 10 % 10) (omega arith) ∙ ap (λ k. (48 + rest / 10 % 10) ∷ drop k digits) back in
+    drop-set digits (at - 1) (48 + rest / 10 % 10) (omega arith) ∙ ap (λ k. (48 + rest / 10 % 10) ∷ drop k digits) back in
     e
     ∙ ap (λ l. l ++ drop at digits) (lead-large rest h ∙ lead-step (rest / 10) small)
     ∙ append-assoc (lead (rest / 10)) ((48 + rest / 10 % 10) ∷ []) (drop at digits)

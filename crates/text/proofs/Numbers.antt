@@ -85,10 +85,11 @@ numbers-more out mid at next zs i h room w =
     let z : ℤ = getD zs i (pos 0) in
     let rest : List ℕ = joined spaced (drop (i + 1) zs) in
     let all : length (joined spaced (drop i zs)) ≡ length (spaced z ++ rest) = at-drop-more (λ (l : List ℤ). length (joined spaced l)) zs i (pos 0) h in
-    let e = length-append (spaced z) rest in
-    (omega (arith, w .end-is, all, e),
-    ap (λ k. overlaid mid k rest) (w .end-is) ∙ ap (λ l. overlaid l (at + length (spaced z)) rest) (w .after-is) ∙ overlaid-append out at (spaced z) rest room
-    ∙ sym (at-drop-more (λ (l : List ℤ). overlaid out at (joined spaced l)) zs i (pos 0) h))
+    let e = length-append (spaced z) rest in (
+      omega (arith, w .end-is, all, e),
+      ap (λ k. overlaid mid k rest) (w .end-is) ∙ ap (λ l. overlaid l (at + length (spaced z)) rest) (w .after-is) ∙ overlaid-append out at (spaced z) rest room
+          ∙ sym (at-drop-more (λ (l : List ℤ). overlaid out at (joined spaced l)) zs i (pos 0) h),
+    )
 
 -- the next number has room where all that are left have
 pub number-fits : (zs : List ℤ) (i at room : ℕ) → i < length zs → at + length (joined spaced (drop i zs)) ≤ room → at + length (spaced (getD zs i (pos 0))) ≤ room

@@ -88,7 +88,11 @@ fn spaced_len(z: i32) -> usize
     ensures { λ r. ⌜ r ≡ length (spaced z) ⌝ }
 {
     let digits = decimal_len(variable_of(z));
-    if is_negative(z) { digits + 2 } else { digits + 1 }
+    if is_negative(z) {
+        digits + 2
+    } else {
+        digits + 1
+    }
 }
 
 fn put_signed(out: &mut [u8], at: usize, z: i32) -> usize
@@ -111,7 +115,11 @@ fn put_spaced(out: &mut [u8], at: usize, z: i32) -> usize
     ensures bytes { λ r. ⌜ now (out .exit) ≡ overlaid (now (out .entry)) at (spaced z) ⌝ }
 {
     let end = put_signed(out, at, z);
-    if is_closing(z) { put(out, end, b"\n") } else { put(out, end, b" ") }
+    if is_closing(z) {
+        put(out, end, b"\n")
+    } else {
+        put(out, end, b" ")
+    }
 }
 
 fn put_numbers(out: &mut [u8], from: usize, numbers: &[i32]) -> usize
@@ -202,7 +210,11 @@ fn has_room(variables: u32, clauses: u32, numbers: &[i32], room: usize) -> bool
 fn refuse(refusal: Refusal) -> Result<u32, Fault>
     ensures { λ r. ⌜ r ≡ writeAnswerOf (Some refusal) 0 ⌝ }
 {
-    Err(Fault { refusal, layer: Layer::Text, place: 0 })
+    Err(Fault {
+        refusal,
+        layer: Layer::Text,
+        place: 0,
+    })
 }
 
 // Tries every refusal before a byte is written; answers the number of clauses.

@@ -19,7 +19,14 @@ fn refusal(variables: u32, numbers: &[i32], room: usize) -> Result<u8, Fail> {
         Ok(_) => Ok(0),
         Err(fault) => {
             check_eq(out, [b'#'; 64])?;
-            check_eq(fault, Fault { refusal: fault.refusal, layer: Layer::Text, place: 0 })?;
+            check_eq(
+                fault,
+                Fault {
+                    refusal: fault.refusal,
+                    layer: Layer::Text,
+                    place: 0,
+                },
+            )?;
             Ok(fault.refusal.number())
         }
     }

@@ -11,6 +11,7 @@ use Rattle.fault.specs.declared.Fault.{Fault}
 use Rattle.dimacs.specs.declared.Class.{Class}
 use Rattle.dimacs.specs.Steps.{stepOf}
 use Rattle.dimacs.specs.Reading.{Reading, reading, stepAt}
+use Rattle.dimacs.proofs.Texts.{one-file}
 use Rattle.text.proofs.Accepted.{accepts-files}
 use Rattle.text.proofs.Turns.{turn, halted, ends, ends-badly}
 use Rattle.text.proofs.read.read.Needs as need
@@ -30,20 +31,20 @@ returns-in-Break-take c =
     let lt : c .loop-at .at < length (c .args .text .now) = omega arith in
     let p = err-from-errBy (c .from-residual .result) (c .from-residual .ensures .1) in
     let all : record { answer = Err (c .in-Break-take .field-0 .0); list = now (c .take .last .self .list) } ≡ reading (c .args .text .now) (c .args .list .now) =
-        sym (halted _ _ _ _ _ _ _ _ _ lt (stepped (need.at·returns-in-Break-take c .After-take)) (c .take .ensures .turned) (c .in-Break-take .was tt)) ∙ c .loop-at .inv .2 in
+    sym (halted _ _ _ _ _ _ _ _ _ lt (stepped (need.at·returns-in-Break-take c .After-take)) (c .take .ensures .turned) (c .in-Break-take .was tt)) ∙ c .loop-at .inv .2 in
     let left : now (c .take .last .self .list) ≡ reading (c .args .text .now) (c .args .list .now) .list = ap (λ (r : Reading). r .list) all in
     let told : _ ≡ reading (c .args .text .now) (c .args .list .now) .answer = p .1 ∙ ap (λ (f : Fault). Err f) (p .2) ∙ ap (λ (r : Reading). r .answer) all in
-    record { answer = told; list = search needs; files = accepts-files (c .args .text .now) (c .args .list .now) _ _ told (search needs) }
+    record { answer = told; list = search needs; files = accepts-files (c .args .text .now) (c .args .list .now) _ _ told (search needs); one-file = one-file (c .args .text .now) }
 
 pub returns-in-Break-end : need.returns-in-Break-end
 returns-in-Break-end c =
     let e : c .loop-at .at ≡ length (c .args .text .now) = omega arith in
     let p = err-from-errBy (c .from-residual-in-Break-end .result) (c .from-residual-in-Break-end .ensures .1) in
     let all : record { answer = Err (c .in-Break-end .field-0 .0); list = now (c .end .last .self .list) } ≡ reading (c .args .text .now) (c .args .list .now) =
-        sym (ends-badly _ _ _ _ _ _ _ _ e (c .end .ensures .turned) (c .in-Break-end .was tt)) ∙ c .loop-at .inv .2 in
+    sym (ends-badly _ _ _ _ _ _ _ _ e (c .end .ensures .turned) (c .in-Break-end .was tt)) ∙ c .loop-at .inv .2 in
     let left : now (c .end .last .self .list) ≡ reading (c .args .text .now) (c .args .list .now) .list = ap (λ (r : Reading). r .list) all in
     let told : _ ≡ reading (c .args .text .now) (c .args .list .now) .answer = p .1 ∙ ap (λ (f : Fault). Err f) (p .2) ∙ ap (λ (r : Reading). r .answer) all in
-    record { answer = told; list = search needs; files = accepts-files (c .args .text .now) (c .args .list .now) _ _ told (search needs) }
+    record { answer = told; list = search needs; files = accepts-files (c .args .text .now) (c .args .list .now) _ _ told (search needs); one-file = one-file (c .args .text .now) }
 
 pub returns : need.returns
 returns c =
@@ -51,4 +52,4 @@ returns c =
     let all = sym (ends _ _ _ _ _ _ _ e (c .end .ensures .turned) (c .in-Continue-end .was tt)) ∙ c .loop-at .inv .2 in
     let left : now (c .end .last .self .list) ≡ reading (c .args .text .now) (c .args .list .now) .list = ap (λ (r : Reading). r .list) all in
     let told : _ ≡ reading (c .args .text .now) (c .args .list .now) .answer = c .summary .ensures ∙ ap (λ (r : Reading). r .answer) all in
-    record { answer = told; list = search needs; files = accepts-files (c .args .text .now) (c .args .list .now) _ _ told (search needs) }
+    record { answer = told; list = search needs; files = accepts-files (c .args .text .now) (c .args .list .now) _ _ told (search needs); one-file = one-file (c .args .text .now) }

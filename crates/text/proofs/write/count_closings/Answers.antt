@@ -21,9 +21,10 @@ loop-z-again c =
     let same : toZ w32 (ofZ w32 (getD zs i (pos 0))) ≡ getD zs i (pos 0) = search needs in
     let lt : i < length zs = c .loop-z-test .taken in
     let e = closings-at zs i (c .is-closing .result) lt (c .is-closing .ensures ∙ ap closes same) in
-    elim (c .if-is-closing .came)
-    [ then-is-closing w ↦ (omega (arith, w .count-is), omega (arith, w .count-is, rw (w .if-is-closing .taken) at e))
-    | else-is-closing w ↦ (omega (arith, w .count-is), omega (arith, w .count-is, rw (w .if-is-closing .left) at e)) ]
+    elim (c .if-is-closing .came) [
+      | then-is-closing w ↦ (omega (arith, w .count-is), omega (arith, w .count-is, rw (w .if-is-closing .taken) at e))
+      | else-is-closing w ↦ (omega (arith, w .count-is), omega (arith, w .count-is, rw (w .if-is-closing .left) at e))
+    ]
 
 pub returns : need.returns
 returns c =

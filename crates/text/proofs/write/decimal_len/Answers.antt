@@ -10,4 +10,5 @@ returns c =
     let ten : length (c .digits-of-from .result .0) ≡ 10 = search needs in
     record {
       value = ap (λ k. k - c .digits-of-from .result .1) (sym ten) ∙ sym (length-drop (c .digits-of-from .result .1) (c .digits-of-from .result .0)) ∙ ap length (c .digits-of-from .ensures .digits);
-      bound = search needs }
+      bound = search needs;
+    }

@@ -35,11 +35,11 @@ returns c =
     let p : List ℕ = 112 ∷ 32 ∷ 99 ∷ 110 ∷ 102 ∷ 32 ∷ [] in
     let a : Wrote out 0 p (c .put-at .last .out) (c .put-at .result) = record { end-is = c .put-at .ensures .end; after-is = c .put-at .ensures .bytes } in
     let b : Wrote out 0 (p ++ n) (c .put-decimal-at .last .out) (c .put-decimal-at .result) =
-        wrote-then out 0 p _ _ n _ _ (omega (arith, c .pre, all)) a (record { end-is = c .put-decimal-at .ensures .end; after-is = c .put-decimal-at .ensures .bytes }) in
+    wrote-then out 0 p _ _ n _ _ (omega (arith, c .pre, all)) a (record { end-is = c .put-decimal-at .ensures .end; after-is = c .put-decimal-at .ensures .bytes }) in
     let d : Wrote out 0 ((p ++ n) ++ 32 ∷ []) (c .put-at-2 .last .out) (c .put-at-2 .result) =
-        wrote-then out 0 (p ++ n) _ _ (32 ∷ []) _ _ (simp length-append (omega (arith, c .pre, all))) b (record { end-is = c .put-at-2 .ensures .end; after-is = c .put-at-2 .ensures .bytes }) in
+    wrote-then out 0 (p ++ n) _ _ (32 ∷ []) _ _ (simp length-append (omega (arith, c .pre, all))) b (record { end-is = c .put-at-2 .ensures .end; after-is = c .put-at-2 .ensures .bytes }) in
     let e : Wrote out 0 (((p ++ n) ++ 32 ∷ []) ++ k) (c .put-decimal-at-2 .last .out) (c .put-decimal-at-2 .result) =
-        wrote-then out 0 ((p ++ n) ++ 32 ∷ []) _ _ k _ _ (simp length-append (omega (arith, c .pre, all))) d (record { end-is = c .put-decimal-at-2 .ensures .end; after-is = c .put-decimal-at-2 .ensures .bytes }) in
+    wrote-then out 0 ((p ++ n) ++ 32 ∷ []) _ _ k _ _ (simp length-append (omega (arith, c .pre, all))) d (record { end-is = c .put-decimal-at-2 .ensures .end; after-is = c .put-decimal-at-2 .ensures .bytes }) in
     let f = wrote-as out 0 _ _ _ _ (header-pieces (c .args .variables) (c .args .clauses))
-        (wrote-then out 0 (((p ++ n) ++ 32 ∷ []) ++ k) _ _ (10 ∷ []) _ _ (simp length-append (omega (arith, c .pre, all))) e (record { end-is = c .put .ensures .end; after-is = c .put .ensures .bytes })) in
+    (wrote-then out 0 (((p ++ n) ++ 32 ∷ []) ++ k) _ _ (10 ∷ []) _ _ (simp length-append (omega (arith, c .pre, all))) e (record { end-is = c .put .ensures .end; after-is = c .put .ensures .bytes })) in
     record { end = f .end-is ∙ zero-add _; bytes = f .after-is }

@@ -32,7 +32,7 @@ loop-z-again c =
     let out : length (c .loop-z .out) ≡ length (c .args .out .now) = search needs in
     let fits = number-fits zs i (c .loop-z .at) (length (c .loop-z .out)) (c .loop-z-test .taken) (omega (arith, c .loop-z .inv .0, c .pre, out)) in
     let more = numbers-more (c .loop-z .out) (c .put-spaced-at .last .out) (c .loop-z .at) (c .put-spaced-at .result) zs i (c .loop-z-test .taken) fits
-        (wrote-as _ _ _ _ _ _ (ap spaced same) (record { end-is = c .put-spaced-at .ensures .end; after-is = c .put-spaced-at .ensures .bytes })) in
+    (wrote-as _ _ _ _ _ _ (ap spaced same) (record { end-is = c .put-spaced-at .ensures .end; after-is = c .put-spaced-at .ensures .bytes })) in
     (more .0 ∙ c .loop-z .inv .0, more .1 ∙ c .loop-z .inv .1)
 
 pub returns : need.returns

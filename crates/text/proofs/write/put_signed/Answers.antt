@@ -19,6 +19,6 @@ returns c =
     let sign : Wrote (c .args .out .now) (c .args .at) (45 ∷ []) (c .put-next .last .out) (c .put-next .result) = record { end-is = c .put-next .ensures .end; after-is = c .put-next .ensures .bytes } in
     let digits : Wrote (c .put-next .last .out) (c .put-next .result) (decimal (c .variable-of-size .result)) (c .put-decimal-2 .last .out) (c .put-decimal-2 .result) = record { end-is = c .put-decimal-2 .ensures .end; after-is = c .put-decimal-2 .ensures .bytes } in
     let text : 45 ∷ decimal (c .variable-of-size .result) ≡ signed (c .args .z) =
-        ap (λ n. 45 ∷ decimal n) (c .variable-of-size .ensures) ∙ sym (signed-minus (toZ w32 (ofZ w32 (c .args .z))) (sym (c .if-not-is-negative .ensures tt))) ∙ ap signed same in
+    ap (λ n. 45 ∷ decimal n) (c .variable-of-size .ensures) ∙ sym (signed-minus (toZ w32 (ofZ w32 (c .args .z))) (sym (c .if-not-is-negative .ensures tt))) ∙ ap signed same in
     let all = wrote-as _ _ _ _ _ _ text (wrote-then _ _ _ _ _ _ _ _ room sign digits) in
     record { end = all .end-is; bytes = all .after-is }

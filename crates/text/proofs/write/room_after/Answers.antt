@@ -31,10 +31,11 @@ loop-z-again c =
     let zs : List ℤ = c .args .numbers .now in
     let same : toZ w32 (ofZ w32 (getD zs i (pos 0))) ≡ getD zs i (pos 0) = search needs in
     let lt : i < length zs = c .loop-z-test .taken in
-    let v : c .spaced-len-size .result ≡ length (spaced (getD zs i (pos 0))) = c .spaced-len-size .ensures ∙ ap (λ (z : ℤ). length (spaced z)) same in
-    (search needs,
-    ap (λ k. room-left (drop (i + 1) zs) k) (ap (λ k. c .loop-z .left - k) v)
-    ∙ sym (at-drop-more (λ (l : List ℤ). room-left l (c .loop-z .left)) zs i (pos 0) lt ∙ room-more (getD zs i (pos 0)) (drop (i + 1) zs) (c .loop-z .left) (omega (arith, v))) ∙ c .loop-z .inv .1)
+    let v : c .spaced-len-size .result ≡ length (spaced (getD zs i (pos 0))) = c .spaced-len-size .ensures ∙ ap (λ (z : ℤ). length (spaced z)) same in (
+      search needs,
+      ap (λ k. room-left (drop (i + 1) zs) k) (ap (λ k. c .loop-z .left - k) v)
+          ∙ sym (at-drop-more (λ (l : List ℤ). room-left l (c .loop-z .left)) zs i (pos 0) lt ∙ room-more (getD zs i (pos 0)) (drop (i + 1) zs) (c .loop-z .left) (omega (arith, v))) ∙ c .loop-z .inv .1,
+    )
 
 pub returns : need.returns
 returns c = sym (room-none (c .loop-z .left)) ∙ sym (at-drop-all (λ (l : List ℤ). room-left l (c .loop-z .left)) (c .args .numbers .now) (c .loop-z .z-index) (c .loop-z-test .left)) ∙ c .loop-z .inv .1

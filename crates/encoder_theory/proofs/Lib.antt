@@ -1,0 +1,15 @@
+pub mod Each
+pub mod Derive
+pub mod PairwiseLaws
+pub mod SequentialLaws
+pub mod BinaryLaws
+pub mod Decided
+pub mod Buffers
+pub mod Signs
+pub mod Grids
+pub mod PairwisePut
+pub mod BinaryPut
+pub mod Answered
+pub mod SequentialPut
+pub mod Tables
+pub mod Equals

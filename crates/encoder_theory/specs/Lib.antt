@@ -1,0 +1,10 @@
+pub mod Members
+pub mod Meaning
+pub mod Laws
+pub mod Buffer
+pub mod Calls
+pub mod Each
+pub mod Pairwise
+pub mod Binary
+pub mod Sequential
+pub mod Theorems
