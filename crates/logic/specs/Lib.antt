@@ -1,3 +1,4 @@
 pub mod Literal
 pub mod Clause
 pub mod Chain
+pub mod Gluing

@@ -6,6 +6,7 @@ ghost use Prim.Native.Nat.{_-_, _*_, _^_};
 ghost use lib.Dec.{ltb};
 ghost use Rattle.std.specs.declared.option.Option.the-variants.{Some, None};
 ghost use Rattle.logic.specs.Literal.{isLiteral, index, literal};
+ghost use Rattle.logic.specs.Gluing.{Gluing};
 
 // The index of `a`, if `a` is a literal on one of the variables 1 to `n`.
 pub fn index_of(n: usize, a: i32) -> Option<usize>
@@ -36,3 +37,9 @@ pub fn literal_at(u: usize) -> Option<i32>
         Some(-variable)
     }
 }
+
+// Does nothing: its contract is the gluing law. Lists of clauses that have only interface variables in common
+// lead from one interface literal to another just by chains inside single lists.
+pub fn lists_glue()
+    ensures { λ _. ⌜ Gluing ⌝ }
+{}

@@ -1,0 +1,3 @@
+// Tests of the cover at its edges.
+#[cfg(test)]
+mod tests;

@@ -1,0 +1,10 @@
+pub mod Sums
+pub mod Rule
+pub mod Parts
+pub mod Bounds
+pub mod GroupedLaws
+pub mod CommanderLaws
+pub mod TowerLaws
+pub mod Blocks
+pub mod Inner
+pub mod Put
