@@ -209,22 +209,22 @@ module _ (n : ℕ) (calls : List Call) (rel : Rel) (tells : Tells n calls rel) (
 
   judge : (b2 b6 b7 b8 b9 b10 : Bool) (o : Option (ℤ × ℤ)) → wordsShort n t ≡ b2 → rangeUnfit n t ≡ b6 → valuesUnfit n values ≡ b7 → listShort C t ≡ b8
       → exhausted M C t ≡ b9 → bufferShort needed room ≡ b10 → worst ≡ o → Judged (refusalBy b2 b6 b7 b8 b9 b10 o)
-  judge true b6 b7 b8 b9 b10 o e2 e6 e7 e8 e9 e10 e11 =
-      (shared (few-words (ltb-true _ _ e2)), at-least 2 (no (omega arith)) (no (omega arith)) (no (omega arith)) (no (omega arith)) (no (omega arith)) (no (omega arith)) (no (omega arith)))
-  judge false true b7 b8 b9 b10 o e2 e6 e7 e8 e9 e10 e11 =
-      (shared (range-met n C M t needed room e6), at-least 6 (λ l. e2) (no (omega arith)) (no (omega arith)) (no (omega arith)) (no (omega arith)) (no (omega arith)) (no (omega arith)))
-  judge false false true b8 b9 b10 o e2 e6 e7 e8 e9 e10 e11 =
-      (values-met e7, at-least 7 (λ l. e2) (λ l. e6) (no (omega arith)) (no (omega arith)) (no (omega arith)) (no (omega arith)) (no (omega arith)))
-  judge false false false true b9 b10 o e2 e6 e7 e8 e9 e10 e11 =
-      (shared (short-list (ltb-true _ _ e8)), at-least 8 (λ l. e2) (λ l. e6) (λ l. e7) (no (omega arith)) (no (omega arith)) (no (omega arith)) (no (omega arith)))
-  judge false false false false true b10 o e2 e6 e7 e8 e9 e10 e11 =
-      (shared (past-met n C M t needed room e9), at-least 9 (λ l. e2) (λ l. e6) (λ l. e7) (λ l. e8) (no (omega arith)) (no (omega arith)) (no (omega arith)))
-  judge false false false false false true o e2 e6 e7 e8 e9 e10 e11 =
-      (shared (short-buffer (ltb-true _ _ e10)), at-least 10 (λ l. e2) (λ l. e6) (λ l. e7) (λ l. e8) (λ l. e9) (no (omega arith)) (no (omega arith)))
-  judge false false false false false false (Some c) e2 e6 e7 e8 e9 e10 e11 =
-      (breaks (c .0) (c .1) (first-broken n calls rel tells (assignmentOf values) c e11), at-least 11 (λ l. e2) (λ l. e6) (λ l. e7) (λ l. e8) (λ l. e9) (λ l. e10) (no (omega arith)))
-  judge false false false false false false None e2 e6 e7 e8 e9 e10 e11 = λ k h.
-      let a = at-least 12 (λ l. e2) (λ l. e6) (λ l. e7) (λ l. e8) (λ l. e9) (λ l. e10) (λ l. ap isSome e11) k h in
+  judge true b6 b7 b8 b9 b10 o w2 e6 e7 e8 e9 e10 e11 =
+      (shared (few-words (ltb-true _ _ w2)), at-least 2 (no (omega arith)) (no (omega arith)) (no (omega arith)) (no (omega arith)) (no (omega arith)) (no (omega arith)) (no (omega arith)))
+  judge false true b7 b8 b9 b10 o w2 e6 e7 e8 e9 e10 e11 =
+      (shared (range-met n C M t needed room e6), at-least 6 (λ l. w2) (no (omega arith)) (no (omega arith)) (no (omega arith)) (no (omega arith)) (no (omega arith)) (no (omega arith)))
+  judge false false true b8 b9 b10 o w2 e6 e7 e8 e9 e10 e11 =
+      (values-met e7, at-least 7 (λ l. w2) (λ l. e6) (no (omega arith)) (no (omega arith)) (no (omega arith)) (no (omega arith)) (no (omega arith)))
+  judge false false false true b9 b10 o w2 e6 e7 e8 e9 e10 e11 =
+      (shared (short-list (ltb-true _ _ e8)), at-least 8 (λ l. w2) (λ l. e6) (λ l. e7) (no (omega arith)) (no (omega arith)) (no (omega arith)) (no (omega arith)))
+  judge false false false false true b10 o w2 e6 e7 e8 e9 e10 e11 =
+      (shared (past-met n C M t needed room e9), at-least 9 (λ l. w2) (λ l. e6) (λ l. e7) (λ l. e8) (no (omega arith)) (no (omega arith)) (no (omega arith)))
+  judge false false false false false true o w2 e6 e7 e8 e9 e10 e11 =
+      (shared (short-buffer (ltb-true _ _ e10)), at-least 10 (λ l. w2) (λ l. e6) (λ l. e7) (λ l. e8) (λ l. e9) (no (omega arith)) (no (omega arith)))
+  judge false false false false false false (Some c) w2 e6 e7 e8 e9 e10 e11 =
+      (breaks (c .0) (c .1) (first-broken n calls rel tells (assignmentOf values) c e11), at-least 11 (λ l. w2) (λ l. e6) (λ l. e7) (λ l. e8) (λ l. e9) (λ l. e10) (no (omega arith)))
+  judge false false false false false false None w2 e6 e7 e8 e9 e10 e11 = λ k h.
+      let a = at-least 12 (λ l. w2) (λ l. e6) (λ l. e7) (λ l. e8) (λ l. e9) (λ l. e10) (λ l. ap isSome e11) k h in
       let b = at-most k h in omega arith
 
   pub judged : Judged (completeRefusal n rel C M t values room)

@@ -88,18 +88,18 @@ module _ (n : ℕ) (C : Cover) (M : Meaning) (t : Terms) (needed room : ℕ) whe
   judge : (b2 b6 b8 b9 b10 : Bool) → wordsShort n t ≡ b2 → rangeUnfit n t ≡ b6 → listShort C t ≡ b8 → exhausted M C t ≡ b9
       → bufferShort needed room ≡ b10
       → Judged (cond b2 (Some wordsFault) (cond b6 (Some rangeFault) (cond b8 (Some listFault) (cond b9 (Some exhaustedFault) (cond b10 (Some bufferFault) None)))))
-  judge true b6 b8 b9 b10 e2 e6 e8 e9 e10 =
-      (few-words (ltb-true _ _ e2), at-least 2 (λ l. absurd (omega arith)) (λ l. absurd (omega arith)) (λ l. absurd (omega arith)) (λ l. absurd (omega arith)) (λ l. absurd (omega arith)))
-  judge false true b8 b9 b10 e2 e6 e8 e9 e10 =
-      (range-met e6, at-least 6 (λ l. e2) (λ l. absurd (omega arith)) (λ l. absurd (omega arith)) (λ l. absurd (omega arith)) (λ l. absurd (omega arith)))
-  judge false false true b9 b10 e2 e6 e8 e9 e10 =
-      (short-list (ltb-true _ _ e8), at-least 8 (λ l. e2) (λ l. e6) (λ l. absurd (omega arith)) (λ l. absurd (omega arith)) (λ l. absurd (omega arith)))
-  judge false false false true b10 e2 e6 e8 e9 e10 =
-      (past-last (lt-true _ _ e9), at-least 9 (λ l. e2) (λ l. e6) (λ l. e8) (λ l. absurd (omega arith)) (λ l. absurd (omega arith)))
-  judge false false false false true e2 e6 e8 e9 e10 =
-      (short-buffer (ltb-true _ _ e10), at-least 10 (λ l. e2) (λ l. e6) (λ l. e8) (λ l. e9) (λ l. absurd (omega arith)))
-  judge false false false false false e2 e6 e8 e9 e10 = λ k h.
-      let a = at-least 11 (λ l. e2) (λ l. e6) (λ l. e8) (λ l. e9) (λ l. e10) k h in
+  judge true b6 b8 b9 b10 w2 e6 e8 e9 e10 =
+      (few-words (ltb-true _ _ w2), at-least 2 (λ l. absurd (omega arith)) (λ l. absurd (omega arith)) (λ l. absurd (omega arith)) (λ l. absurd (omega arith)) (λ l. absurd (omega arith)))
+  judge false true b8 b9 b10 w2 e6 e8 e9 e10 =
+      (range-met e6, at-least 6 (λ l. w2) (λ l. absurd (omega arith)) (λ l. absurd (omega arith)) (λ l. absurd (omega arith)) (λ l. absurd (omega arith)))
+  judge false false true b9 b10 w2 e6 e8 e9 e10 =
+      (short-list (ltb-true _ _ e8), at-least 8 (λ l. w2) (λ l. e6) (λ l. absurd (omega arith)) (λ l. absurd (omega arith)) (λ l. absurd (omega arith)))
+  judge false false false true b10 w2 e6 e8 e9 e10 =
+      (past-last (lt-true _ _ e9), at-least 9 (λ l. w2) (λ l. e6) (λ l. e8) (λ l. absurd (omega arith)) (λ l. absurd (omega arith)))
+  judge false false false false true w2 e6 e8 e9 e10 =
+      (short-buffer (ltb-true _ _ e10), at-least 10 (λ l. w2) (λ l. e6) (λ l. e8) (λ l. e9) (λ l. absurd (omega arith)))
+  judge false false false false false w2 e6 e8 e9 e10 = λ k h.
+      let a = at-least 11 (λ l. w2) (λ l. e6) (λ l. e8) (λ l. e9) (λ l. e10) k h in
       let b = few-numbers k h in omega arith
 
 pub judged : (n : ℕ) (C : Cover) (M : Meaning) (t : Terms) (room : ℕ) → Judged n C M t (2 * clauseCount M C) room (writeRefusal n C M t room)
