@@ -49,18 +49,20 @@ long list ns at n e h p = omega (arith, length-drop at list, ap length e)
 pub part-here : (list : List ℤ) (at : ℕ) (Q : PartOf ℤ) (rest : List ℤ) → Sized (Q ∷ []) → drop at list ≡ numbersOf Q ++ rest
     → (partAt list at ≡ Some (placed at Q)) × (drop (endOf (placed at Q)) list ≡ rest)
 part-here list at (clique ms) rest s e =
-    let len = length-append (pos (length ms) ∷ ms) rest in
-    (ap (λ h. partFrom (length list) at h (getD list (at + 1) (pos 0))) (head-zero list _ at e) ∙ from-clique (length list) at (length ms) _ (s .0)
-      ∙ cond-true (leb (at + 1 + length ms) (length list)) _ _ (le-leb _ _ (let l = long list _ at (1 + length ms) e (omega arith) (omega arith) in omega arith)),
+    let len = length-append (pos (length ms) ∷ ms) rest in (
+      ap (λ h. partFrom (length list) at h (getD list (at + 1) (pos 0))) (head-zero list _ at e) ∙ from-clique (length list) at (length ms) _ (s .0)
+          ∙ cond-true (leb (at + 1 + length ms) (length list)) _ _ (le-leb _ _ (let l = long list _ at (1 + length ms) e (omega arith) (omega arith) in omega arith)),
       ap (λ n. drop n list) (let q : at + 1 + length ms ≡ at + (1 + length ms) = omega arith in q) ∙ sym (drop-drop (1 + length ms) at list) ∙ ap (drop (1 + length ms)) e
-      ∙ drop-at (pos (length ms) ∷ ms) rest (1 + length ms) (omega arith))
+          ∙ drop-at (pos (length ms) ∷ ms) rest (1 + length ms) (omega arith),
+    )
 part-here list at (biclique xs ys) rest s e =
     let len = length-append (minus (length xs) ∷ pos (length ys) ∷ (xs ++ ys)) rest in
-    let both = length-append xs ys in
-    (ap₂ (λ h k. partFrom (length list) at h k) (head-zero list _ at e) (head-at list _ at 1 e) ∙ from-biclique (length list) at (length xs) (length ys) (s .0)
-      ∙ cond-true (leb (at + 2 + length xs + length ys) (length list)) _ _ (le-leb _ _ (let l = long list _ at (2 + length xs + length ys) e (omega arith) (omega arith) in omega arith)),
+    let both = length-append xs ys in (
+      ap₂ (λ h k. partFrom (length list) at h k) (head-zero list _ at e) (head-at list _ at 1 e) ∙ from-biclique (length list) at (length xs) (length ys) (s .0)
+          ∙ cond-true (leb (at + 2 + length xs + length ys) (length list)) _ _ (le-leb _ _ (let l = long list _ at (2 + length xs + length ys) e (omega arith) (omega arith) in omega arith)),
       ap (λ n. drop n list) (let q : at + 2 + length xs + length ys ≡ at + (2 + length xs + length ys) = omega arith in q) ∙ sym (drop-drop (2 + length xs + length ys) at list) ∙ ap (drop (2 + length xs + length ys)) e
-      ∙ drop-at (minus (length xs) ∷ pos (length ys) ∷ (xs ++ ys)) rest (2 + length xs + length ys) (omega arith))
+          ∙ drop-at (minus (length xs) ∷ pos (length ys) ∷ (xs ++ ys)) rest (2 + length xs + length ys) (omega arith),
+    )
 
 -- a part that is read lies further on, and within the list
 within-some : (room : ℕ) (P Q : Part) → within room P ≡ Some Q → (endOf P ≤ room) × (P ≡ Q)

@@ -35,10 +35,11 @@ remainingOf net = covering (2 * net .variables) (conflictsOf net) .0
 -- what a cover counts: its cliques, its bicliques, the conflicts that remain, and the numbers that its parts take in a list
 abbrev pub countsOf : PartsAndRest → Covered
 countsOf C = record {
-    cliques = cliqueCount (C .parts);
-    bicliques = bicliqueCount (C .parts);
-    remaining = length (C .remaining);
-    used = length (numbers (C .parts)) }
+  cliques = cliqueCount (C .parts);
+  bicliques = bicliqueCount (C .parts);
+  remaining = length (C .remaining);
+  used = length (numbers (C .parts));
+}
 
 -- refusal 2: the work words are fewer than the network needs
 abbrev pub wordsShort : Net → ℕ → Bool

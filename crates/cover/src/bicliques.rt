@@ -18,6 +18,7 @@ ghost use mathlib.Core.Logic.{_⊎_};
 ghost use Rattle.logic.specs.Literal.{literal};
 ghost use Rattle.cover_theory.specs.Parts.{Part, clique};
 use super::cliques::erase;
+use super::cliques::lacks_room;
 use super::cliques::literal_of;
 use super::masks::*;
 
@@ -70,7 +71,16 @@ fn improves(x: usize, y: usize, d: usize) -> bool
 }
 
 // The score of `c`, or some number up to `top` if the score is not above `top`. No score is more than one above the degree.
-fn score_above(words: &[u64], rows: usize, count: usize, degrees: &[u16], c: usize, a: &[u64], b: &[u64], top: usize) -> usize
+fn score_above(
+    words: &[u64],
+    rows: usize,
+    count: usize,
+    degrees: &[u16],
+    c: usize,
+    a: &[u64],
+    b: &[u64],
+    top: usize,
+) -> usize
     requires fit { ⌜ Fit count rows (now words) ⌝ ∗ ⌜ c < count ⌝ ∗ ⌜ rows ≤ length (now a) ⌝ ∗ ⌜ rows ≤ length (now b) ⌝ ∗ ⌜ count ≤ length (now degrees) ⌝ }
     requires degrees { ⌜ Degrees count (conflicts count rows (now words)) (now degrees) ⌝ }
     ensures above { λ r. ⌜ (top < r → r ≡ score count (conflicts count rows (now (words .entry))) (held count (now (a .entry))) (held count (now (b .entry))) c) ⌝ }
@@ -102,7 +112,14 @@ fn pick(words: &[u64], rows: usize, count: usize, degrees: &[u16], a: &[u64], b:
 }
 
 // The sides grow as long as the gain does.
-fn widen_sides(words: &[u64], rows: usize, count: usize, degrees: &[u16], a: &mut [u64], b: &mut [u64])
+fn widen_sides(
+    words: &[u64],
+    rows: usize,
+    count: usize,
+    degrees: &[u16],
+    a: &mut [u64],
+    b: &mut [u64],
+)
     requires fit { ⌜ Fit count rows (now words) ⌝ ∗ ⌜ 0 < count ⌝ ∗ ⌜ count ≤ 8192 ⌝ }
     requires room { ⌜ rows ≤ length (now a) ⌝ ∗ ⌜ rows ≤ length (now b) ⌝ }
     requires degrees { ⌜ count ≤ length (now degrees) ⌝ ∗ ⌜ Degrees count (conflicts count rows (now words)) (now degrees) ⌝ }
@@ -157,7 +174,14 @@ fn erase_if(words: &mut [u64], rows: usize, u: usize, on: &[u64], off: &[u64])
 }
 
 // Writes the literals of a mask into the list, by index, and answers where they end.
-fn emit_side(list: &mut [i32], at: usize, mask: &[u64], rows: usize, count: usize, k: usize) -> usize
+fn emit_side(
+    list: &mut [i32],
+    at: usize,
+    mask: &[u64],
+    rows: usize,
+    count: usize,
+    k: usize,
+) -> usize
     requires room { ⌜ rows ≤ length (now mask) ⌝ ∗ ⌜ count ≤ 64 * rows ⌝ ∗ ⌜ count ≤ 8192 ⌝ }
     requires fits { ⌜ k ≡ counted (held count (now mask)) count 0 ⌝ ∗ ⌜ at + k ≤ length (now list) ⌝ }
     ensures end { λ r. ⌜ r ≡ at + k ⌝ }
@@ -236,7 +260,14 @@ fn start_sides(words: &[u64], rows: usize, count: usize, c: usize, a: &mut [u64]
 }
 
 // The sides that grow from the fullest literal.
-fn grow_sides(words: &[u64], rows: usize, count: usize, degrees: &[u16], a: &mut [u64], b: &mut [u64])
+fn grow_sides(
+    words: &[u64],
+    rows: usize,
+    count: usize,
+    degrees: &[u16],
+    a: &mut [u64],
+    b: &mut [u64],
+)
     requires fit { ⌜ Fit count rows (now words) ⌝ ∗ ⌜ 0 < count ⌝ ∗ ⌜ count ≤ 8192 ⌝ ∗ ⌜ rows ≤ length (now a) ⌝ ∗ ⌜ rows ≤ length (now b) ⌝ }
     requires degrees { ⌜ count ≤ length (now degrees) ⌝ ∗ ⌜ Degrees count (conflicts count rows (now words)) (now degrees) ⌝ }
     ensures { λ _. ⌜ SidesIn count rows (now (a .exit)) (now (b .exit)) (grownSides count (conflicts count rows (now (words .entry)))) ⌝ }
@@ -247,7 +278,15 @@ fn grow_sides(words: &[u64], rows: usize, count: usize, degrees: &[u16], a: &mut
 }
 
 // The degree of u, counted anew if u is in either mask.
-fn renewed(words: &[u64], rows: usize, count: usize, u: usize, old: u16, a: &[u64], b: &[u64]) -> u16
+fn renewed(
+    words: &[u64],
+    rows: usize,
+    count: usize,
+    u: usize,
+    old: u16,
+    a: &[u64],
+    b: &[u64],
+) -> u16
     requires { ⌜ Fit count rows (now words) ⌝ ∗ ⌜ u < count ⌝ ∗ ⌜ rows ≤ length (now a) ⌝ ∗ ⌜ rows ≤ length (now b) ⌝ }
     ensures { λ r. ⌜ r ≡ cond (marked (now (a .entry)) u || marked (now (b .entry)) u) (counted (shared (conflicts count rows (now (words .entry))) (everyone count) u) count 0) old ⌝ }
 {
@@ -279,7 +318,16 @@ fn negated(x: usize) -> i32
 }
 
 // Writes a biclique of x literals against y into the list.
-fn emit_sides(list: &mut [i32], at: usize, rows: usize, count: usize, a: &[u64], b: &[u64], x: usize, y: usize)
+fn emit_sides(
+    list: &mut [i32],
+    at: usize,
+    rows: usize,
+    count: usize,
+    a: &[u64],
+    b: &[u64],
+    x: usize,
+    y: usize,
+)
     requires room { ⌜ rows ≤ length (now a) ⌝ ∗ ⌜ rows ≤ length (now b) ⌝ ∗ ⌜ count ≤ 64 * rows ⌝ ∗ ⌜ count ≤ 8192 ⌝ ∗ ⌜ at + x + y + 2 ≤ length (now list) ⌝ }
     requires sizes { ⌜ x ≡ counted (held count (now a)) count 0 ⌝ ∗ ⌜ y ≡ counted (held count (now b)) count 0 ⌝ ∗ ⌜ x ≤ 8192 ⌝ ∗ ⌜ y ≤ 8192 ⌝ }
     ensures { λ _. ⌜ now (list .exit) ≡ take at (now (list .entry)) ++ (listed (sidesPart count (now (a .entry)) (now (b .entry))) ++ drop (at + x + y + 2) (now (list .entry))) ⌝ }
@@ -291,14 +339,24 @@ fn emit_sides(list: &mut [i32], at: usize, rows: usize, count: usize, a: &[u64],
 }
 
 // Writes the sides into the list, if it has room for them, and takes their conflicts away. None: the list is too short.
-fn take_sides(words: &mut [u64], rows: usize, count: usize, list: &mut [i32], at: usize, a: &[u64], b: &[u64], x: usize, y: usize) -> Option<usize>
+fn take_sides(
+    words: &mut [u64],
+    rows: usize,
+    count: usize,
+    list: &mut [i32],
+    at: usize,
+    a: &[u64],
+    b: &[u64],
+    x: usize,
+    y: usize,
+) -> Option<usize>
     requires fit { ⌜ Fit count rows (now words) ⌝ ∗ ⌜ count ≤ 8192 ⌝ ∗ ⌜ at ≤ length (now list) ⌝ ∗ ⌜ rows ≤ length (now a) ⌝ ∗ ⌜ rows ≤ length (now b) ⌝ }
     requires sizes { ⌜ x ≡ counted (held count (now a)) count 0 ⌝ ∗ ⌜ y ≡ counted (held count (now b)) count 0 ⌝ ∗ ⌜ x ≤ 8192 ⌝ ∗ ⌜ y ≤ 8192 ⌝ }
     ensures { λ r. ⌜ BySome r
         (length (now (list .entry)) < length (told (take at (now (list .entry))) (sidesPart count (now (a .entry)) (now (b .entry)))))
         (λ to. Went count rows (now (words .entry)) (now (words .exit)) (now (list .entry)) (now (list .exit)) at to (withoutSides (conflicts count rows (now (words .entry))) (held count (now (a .entry)), held count (now (b .entry))), told (take at (now (list .entry))) (sidesPart count (now (a .entry)) (now (b .entry))))) ⌝ }
 {
-    if list.len() - at < x + y + 2 {
+    if lacks_room(list.len(), at, x + y + 2) {
         return None;
     }
     emit_sides(list, at, rows, count, a, b, x, y);
@@ -307,7 +365,16 @@ fn take_sides(words: &mut [u64], rows: usize, count: usize, list: &mut [i32], at
 }
 
 // The bicliques: one after the other, as long as there is a gain. None: the list is too short.
-pub(crate) fn find_bicliques(words: &mut [u64], rows: usize, count: usize, list: &mut [i32], at: usize, a: &mut [u64], b: &mut [u64], degrees: &mut [u16]) -> Option<usize>
+pub(crate) fn find_bicliques(
+    words: &mut [u64],
+    rows: usize,
+    count: usize,
+    list: &mut [i32],
+    at: usize,
+    a: &mut [u64],
+    b: &mut [u64],
+    degrees: &mut [u16],
+) -> Option<usize>
     requires fit { ⌜ Fit count rows (now words) ⌝ ∗ ⌜ 0 < count ⌝ ∗ ⌜ count ≤ 8192 ⌝ ∗ ⌜ at ≤ length (now list) ⌝ }
     requires room { ⌜ rows ≤ length (now a) ⌝ ∗ ⌜ rows ≤ length (now b) ⌝ ∗ ⌜ count ≤ length (now degrees) ⌝ }
     ensures { λ r. ⌜ BySome r

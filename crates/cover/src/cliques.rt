@@ -5,7 +5,7 @@ ghost use mathlib.Core.List.{[], _∷_};
 ghost use Prim.Native.Nat.{ℕ, _+_, _-_, _*_, _/_, _%_, _^_, _<_, _≤_};
 ghost use lib.ListN.{length, getD, set, take, drop};
 ghost use lib.Count.{ones};
-ghost use lib.Dec.{leb, eqb};
+ghost use lib.Dec.{leb, eqb, ltb};
 ghost use lib.Bits.{bitAnd, bitOr, bitXor};
 ghost use lib.IntN.{ℤ, pos};
 ghost use mathlib.Core.List.{List, _++_, map};
@@ -43,7 +43,15 @@ fn start(mask: &mut [u64], words: &[u64], count: usize, u: usize, w: usize, rows
 }
 
 // Grows the clique from u and w, and answers how many members it has.
-fn grow(words: &[u64], rows: usize, count: usize, u: usize, w: usize, mask: &mut [u64], members: &mut [usize]) -> usize
+fn grow(
+    words: &[u64],
+    rows: usize,
+    count: usize,
+    u: usize,
+    w: usize,
+    mask: &mut [u64],
+    members: &mut [usize],
+) -> usize
     requires room { ⌜ rows ≤ length (now mask) ⌝ ∗ ⌜ count * rows ≤ length (now words) ⌝ ∗ ⌜ length (now members) ≡ 256 ⌝ }
     requires pair { ⌜ u < w ⌝ ∗ ⌜ w < count ⌝ ∗ ⌜ rows ≤ 128 ⌝ ∗ ⌜ count ≤ 64 * rows ⌝ }
     requires tidy { ⌜ Tidy count rows (now words) ⌝ }
@@ -95,7 +103,14 @@ pub(crate) fn erase(words: &mut [u64], rows: usize, u: usize, mask: &[u64])
 }
 
 // Takes the conflicts among the k first members away.
-fn remove(words: &mut [u64], rows: usize, count: usize, members: &[usize], k: usize, mask: &mut [u64])
+fn remove(
+    words: &mut [u64],
+    rows: usize,
+    count: usize,
+    members: &[usize],
+    k: usize,
+    mask: &mut [u64],
+)
     requires room { ⌜ rows ≤ length (now mask) ⌝ ∗ ⌜ count * rows ≤ length (now words) ⌝ ∗ ⌜ k ≤ length (now members) ⌝ ∗ ⌜ count ≤ 64 * rows ⌝ }
     requires within { ⌜ ((i : ℕ) → i < k → getD (now members) i 0 < count) ⌝ }
     ensures gone { λ _. ⌜ ((u j : ℕ) → u < count → j < 64 * rows → standsAt (now (words .exit)) rows u j ≡ (standsAt (now (words .entry)) rows u j && not (among (take k (now (members .entry))) u && among (take k (now (members .entry))) j))) ⌝ }
@@ -141,8 +156,26 @@ fn after(words: &[u64], rows: usize, u: usize, from: usize) -> Option<usize>
     None
 }
 
+// A list of `len` numbers has no room for so many from `at` on.
+pub(crate) fn lacks_room(len: usize, at: usize, size: usize) -> bool
+    requires { ⌜ at ≤ len ⌝ }
+    ensures { λ r. ⌜ r ≡ ltb (len - at) size ⌝ }
+{
+    len - at < size
+}
+
 // Visits the pair u, w, which remains: its clique becomes a part if it has six members or more. None: the list is too short.
-fn visit_pair(words: &mut [u64], rows: usize, count: usize, u: usize, w: usize, list: &mut [i32], at: usize, mask: &mut [u64], members: &mut [usize]) -> Option<usize>
+fn visit_pair(
+    words: &mut [u64],
+    rows: usize,
+    count: usize,
+    u: usize,
+    w: usize,
+    list: &mut [i32],
+    at: usize,
+    mask: &mut [u64],
+    members: &mut [usize],
+) -> Option<usize>
     requires fit { ⌜ Fit count rows (now words) ⌝ ∗ ⌜ count ≤ 8192 ⌝ ∗ ⌜ at ≤ length (now list) ⌝ }
     requires room { ⌜ rows ≤ length (now mask) ⌝ ∗ ⌜ length (now members) ≡ 256 ⌝ }
     requires pair { ⌜ u < w ⌝ ∗ ⌜ w < count ⌝ ∗ ⌜ standsAt (now words) rows u w ≡ true ⌝ }
@@ -154,7 +187,7 @@ fn visit_pair(words: &mut [u64], rows: usize, count: usize, u: usize, w: usize, 
     if k < 6 {
         return Some(at);
     }
-    if list.len() - at < k + 1 {
+    if lacks_room(list.len(), at, k + 1) {
         return None;
     }
     emit(list, at, members, k);
@@ -163,7 +196,16 @@ fn visit_pair(words: &mut [u64], rows: usize, count: usize, u: usize, w: usize, 
 }
 
 // Visits the pairs of u and the literals after it.
-fn visit_row(words: &mut [u64], rows: usize, count: usize, u: usize, list: &mut [i32], at: usize, mask: &mut [u64], members: &mut [usize]) -> Option<usize>
+fn visit_row(
+    words: &mut [u64],
+    rows: usize,
+    count: usize,
+    u: usize,
+    list: &mut [i32],
+    at: usize,
+    mask: &mut [u64],
+    members: &mut [usize],
+) -> Option<usize>
     requires fit { ⌜ Fit count rows (now words) ⌝ ∗ ⌜ count ≤ 8192 ⌝ ∗ ⌜ at ≤ length (now list) ⌝ }
     requires room { ⌜ rows ≤ length (now mask) ⌝ ∗ ⌜ length (now members) ≡ 256 ⌝ ∗ ⌜ u < count ⌝ }
     ensures { λ r. ⌜ BySome r
@@ -183,7 +225,14 @@ fn visit_row(words: &mut [u64], rows: usize, count: usize, u: usize, list: &mut 
 }
 
 // The cliques: visits every pair that remains.
-pub(crate) fn find_cliques(words: &mut [u64], rows: usize, count: usize, list: &mut [i32], mask: &mut [u64], members: &mut [usize]) -> Option<usize>
+pub(crate) fn find_cliques(
+    words: &mut [u64],
+    rows: usize,
+    count: usize,
+    list: &mut [i32],
+    mask: &mut [u64],
+    members: &mut [usize],
+) -> Option<usize>
     requires fit { ⌜ Fit count rows (now words) ⌝ ∗ ⌜ count ≤ 8192 ⌝ }
     requires room { ⌜ rows ≤ length (now mask) ⌝ ∗ ⌜ length (now members) ≡ 256 ⌝ }
     ensures { λ r. ⌜ BySome r

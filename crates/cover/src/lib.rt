@@ -48,8 +48,15 @@ pub struct Covered {
 // A part of the cover in the list: where its members begin, and how many it has of each kind.
 #[derive(Clone, Copy, PartialEq, Eq, Debug)]
 pub enum Part {
-    Clique { at: usize, size: usize },
-    Biclique { at: usize, left: usize, right: usize },
+    Clique {
+        at: usize,
+        size: usize,
+    },
+    Biclique {
+        at: usize,
+        left: usize,
+        right: usize,
+    },
 }
 
 // The clique of `size` members that begins at `at`, if it lies within so many numbers.
@@ -70,7 +77,11 @@ fn biclique_within(room: usize, at: usize, left: usize, right: usize) -> Option<
     ensures { λ r. ⌜ r ≡ within room (Part.Biclique (at + 2) left right) ⌝ }
 {
     if left + right <= room - at - 2 {
-        Some(Part::Biclique { at: at + 2, left, right })
+        Some(Part::Biclique {
+            at: at + 2,
+            left,
+            right,
+        })
     } else {
         None
     }
@@ -94,7 +105,12 @@ fn read_part(list: &[i32], at: usize) -> Option<Part>
     if next < 0 {
         return None;
     }
-    biclique_within(list.len(), at, head.unsigned_abs() as usize, next.unsigned_abs() as usize)
+    biclique_within(
+        list.len(),
+        at,
+        head.unsigned_abs() as usize,
+        next.unsigned_abs() as usize,
+    )
 }
 
 // The part that begins at a place of the list, if one does: where the numbers of a part stand, that part is read.
@@ -163,7 +179,12 @@ fn row_words(n: usize) -> usize
 }
 
 // Covers the conflicts of `n` variables that lie in `words`, with just as many work words as they need.
-fn cover_exactly(n: usize, words: &[u64], work: &mut [u64], list: &mut [i32]) -> Result<Covered, Fault>
+fn cover_exactly(
+    n: usize,
+    words: &[u64],
+    work: &mut [u64],
+    list: &mut [i32],
+) -> Result<Covered, Fault>
     requires size { ⌜ n ≤ mostVariables ⌝ ∗ ⌜ wordsNeeded n ≤ length (now words) ⌝ ∗ ⌜ length (now work) ≡ wordsNeeded n ⌝ }
     requires network { ⌜ Mutual (netIn n (now words)) ⌝ ∗ ⌜ Apart (netIn n (now words)) ⌝ ∗ ⌜ Trimmed (netIn n (now words)) ⌝ }
     ensures answer { λ r. ⌜ r ≡ coverAnswer (netIn n (now (words .entry))) (length (now (work .entry))) (length (now (list .entry))) ⌝ }
@@ -190,7 +211,12 @@ fn cover_exactly(n: usize, words: &[u64], work: &mut [u64], list: &mut [i32]) ->
 }
 
 // Covers the conflicts of `n` variables that lie in `words`.
-fn cover_words(n: usize, words: &[u64], work: &mut [u64], list: &mut [i32]) -> Result<Covered, Fault>
+fn cover_words(
+    n: usize,
+    words: &[u64],
+    work: &mut [u64],
+    list: &mut [i32],
+) -> Result<Covered, Fault>
     requires size { ⌜ n ≤ mostVariables ⌝ ∗ ⌜ wordsNeeded n ≤ length (now words) ⌝ }
     requires network { ⌜ Mutual (netIn n (now words)) ⌝ ∗ ⌜ Apart (netIn n (now words)) ⌝ ∗ ⌜ Trimmed (netIn n (now words)) ⌝ }
     ensures answer { λ r. ⌜ r ≡ coverAnswer (netIn n (now (words .entry))) (length (now (work .entry))) (length (now (list .entry))) ⌝ }

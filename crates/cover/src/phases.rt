@@ -17,7 +17,12 @@ use super::masks::above;
 use super::masks::tally;
 
 // Finds the parts, and answers how many numbers of the list they take. None: the list is too short.
-pub(crate) fn find_parts(words: &mut [u64], rows: usize, count: usize, list: &mut [i32]) -> Option<usize>
+pub(crate) fn find_parts(
+    words: &mut [u64],
+    rows: usize,
+    count: usize,
+    list: &mut [i32],
+) -> Option<usize>
     requires fit { ⌜ Fit count rows (now words) ⌝ ∗ ⌜ count ≤ 8192 ⌝ }
     ensures { λ r. ⌜ BySome r
         (length (now (list .entry)) < length (ruled told count (conflicts count rows (now (words .entry)), []) .1))

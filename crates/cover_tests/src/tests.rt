@@ -14,7 +14,12 @@ use fault::Refusal;
 use network::Open;
 use std::test::*;
 
-fn counts(cliques: usize, bicliques: usize, remaining: usize, used: usize) -> Result<Covered, Fault> {
+fn counts(
+    cliques: usize,
+    bicliques: usize,
+    remaining: usize,
+    used: usize,
+) -> Result<Covered, Fault> {
     Ok(Covered {
         cliques,
         bicliques,
@@ -71,7 +76,10 @@ fn work_words_too_few() -> Result<(), Fail> {
     let mut list = [5i32; 2];
     let mut net = Open::open(6, &mut words);
     add_clique(&mut net, 1, 7);
-    check_eq(cover(&net.seal(), &mut work, &mut list), refused(Refusal::WordsShort, Layer::Network))?;
+    check_eq(
+        cover(&net.seal(), &mut work, &mut list),
+        refused(Refusal::WordsShort, Layer::Network),
+    )?;
     check(work == [3; 11])?;
     check(list == [5, 5])
 }
@@ -85,7 +93,14 @@ fn five_make_a_biclique_whose_side_takes_in_a_literal() -> Result<(), Fail> {
     add_clique(&mut net, 1, 6);
     check_eq(cover(&net.seal(), &mut work, &mut list), counts(0, 1, 4, 7))?;
     check(list == [-2, 3, 1, 2, 3, 4, 5, 0])?;
-    check_eq(part_at(&list, 0), Some(Part::Biclique { at: 2, left: 2, right: 3 }))?;
+    check_eq(
+        part_at(&list, 0),
+        Some(Part::Biclique {
+            at: 2,
+            left: 2,
+            right: 3,
+        }),
+    )?;
     check_eq(part_at(&list, 7), None)
 }
 
@@ -101,7 +116,10 @@ fn six_make_a_clique() -> Result<(), Fail> {
     check(list == [6, 1, 2, 3, 4, 5, 6])?;
     check_eq(part_at(&list, 0), Some(Part::Clique { at: 1, size: 6 }))?;
     let mut short = [5i32; 6];
-    check_eq(cover(&net, &mut work, &mut short), refused(Refusal::PartListShort, Layer::Cover))?;
+    check_eq(
+        cover(&net, &mut work, &mut short),
+        refused(Refusal::PartListShort, Layer::Cover),
+    )?;
     check(short == [0; 6])?;
     check(work == [0, 0, 0, 0, 0, 0, 0, 0, 0, 0, 0, 0, 9])
 }
@@ -113,10 +131,16 @@ fn the_largest_clique() -> Result<(), Fail> {
     let mut list = [5i32; 300];
     let mut net = Open::open(257, &mut words);
     add_clique(&mut net, 1, 257);
-    check_eq(cover(&net.seal(), &mut work, &mut list), counts(1, 0, 0, 257))?;
+    check_eq(
+        cover(&net.seal(), &mut work, &mut list),
+        counts(1, 0, 0, 257),
+    )?;
     let mut net = Open::open(257, &mut words);
     add_clique(&mut net, 1, 258);
-    check_eq(cover(&net.seal(), &mut work, &mut list), counts(1, 0, 256, 257))?;
+    check_eq(
+        cover(&net.seal(), &mut work, &mut list),
+        counts(1, 0, 256, 257),
+    )?;
     check(list[0] == 256 && list[256] == 256 && list[257] == 0)
 }
 
@@ -142,7 +166,10 @@ fn the_lowest_at_ties() -> Result<(), Fail> {
     let mut net = Open::open(10, &mut words);
     add_biclique(&mut net, 6, 8, 8, 11);
     add_biclique(&mut net, 1, 3, 3, 6);
-    check_eq(cover(&net.seal(), &mut work, &mut list), counts(0, 2, 0, 14))?;
+    check_eq(
+        cover(&net.seal(), &mut work, &mut list),
+        counts(0, 2, 0, 14),
+    )?;
     check(list == [-2, 3, 1, 2, 3, 4, 5, -2, 3, 6, 7, 8, 9, 10])
 }
 
@@ -161,4 +188,25 @@ fn a_clique_that_another_takes_apart() -> Result<(), Fail> {
         Ok(counted) => check_eq(counted.cliques, 1),
         Err(fault) => check_eq(fault.place, 1),
     }
+}
+
+#[test]
+fn an_empty_and_a_complete_network() -> Result<(), Fail> {
+    let mut words = [0u64; 6];
+    let mut work = [9u64; 6];
+    let mut list = [5i32; 9];
+    check_eq(
+        cover(&Open::open(3, &mut words).seal(), &mut work, &mut list),
+        counts(0, 0, 0, 0),
+    )?;
+    check(work == [0; 6])?;
+    let mut net = Open::open(3, &mut words);
+    for a in -3..4 {
+        for b in -3..4 {
+            let _ = net.add(a, b);
+        }
+    }
+    check_eq(cover(&net.seal(), &mut work, &mut list), counts(0, 1, 4, 8))?;
+    check(list == [-2, 4, 1, -1, 2, -2, 3, -3, 0])?;
+    check(work == [0, 0, 48, 48, 12, 12])
 }

@@ -56,7 +56,7 @@ ones-count (suc k) x h =
     let e : 2 ^ suc k ≡ 2 * 2 ^ k = ap (λ z. 2 ^ z) (sym (one-add k)) ∙ pow-add 2 1 k in
     ones-step x ∙ ap₂ _+_ (low-digit x)
     (ones-count k (x / 2) (omega arith)
-      ∙ count-as (bit (x / 2)) (bit x) k 0 1 (λ t g. ap (λ z. bit (x / 2) z) (let z : 0 + t ≡ t = omega arith in z) ∙ ap (λ z. eqb (z % 2) 1) (sym (half x t)) ∙ ap (λ z. bit x z) (sym (one-add t))))
+    ∙ count-as (bit (x / 2)) (bit x) k 0 1 (λ t g. ap (λ z. bit (x / 2) z) (let z : 0 + t ≡ t = omega arith in z) ∙ ap (λ z. eqb (z % 2) 1) (sym (half x t)) ∙ ap (λ z. bit x z) (sym (one-add t))))
 
 -- one word more
 pub word-more : (p : Side) (i x : ℕ) → x < 2 ^ 64 → ((t : ℕ) → t < 64 → p (64 * i + t) ≡ bit x t) → count p (64 * (i + 1)) 0 ≡ count p (64 * i) 0 + ones x
@@ -91,7 +91,7 @@ common-is N R ws mask u fit hu =
     let small = fit .small in
     count-cut (λ j. marked mask j && standsAt ws R u j) N (64 * R) (fit .small) (λ j g l. and-right (marked mask j) _ (fit .tidy u j hu g l))
     ∙ count-same (λ j. marked mask j && standsAt ws R u j) (shared (conflicts N R ws) (held N mask) u) N
-      (λ j h. ap₂ (λ a b. a && b) (ap (λ b. b && marked mask j) (sym (lt-ltb j N h))) (agree N R ws (fit .tidy) (fit .small) u j hu (omega arith)))
+    (λ j h. ap₂ (λ a b. a && b) (ap (λ b. b && marked mask j) (sym (lt-ltb j N h))) (agree N R ws (fit .tidy) (fit .small) u j hu (omega arith)))
 
 pub held-is : (N : ℕ) (mask : List ℕ) (c : ℕ) → c < N → marked mask c ≡ held N mask c
 held-is N mask c h = ap (λ b. b && marked mask c) (sym (lt-ltb c N h))

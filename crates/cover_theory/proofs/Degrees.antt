@@ -24,7 +24,7 @@ degree-is N R ws u fit hu =
     let small = fit .small in
     count-cut (standsAt ws R u) N (64 * R) (fit .small) (λ j g l. fit .tidy u j hu g l)
     ∙ count-same (standsAt ws R u) (shared (conflicts N R ws) (everyone N) u) N
-      (λ j h. agree N R ws (fit .tidy) (fit .small) u j hu (omega arith) ∙ ap (λ b. b && conflicts N R ws u j) (sym (lt-ltb j N h)))
+    (λ j h. agree N R ws (fit .tidy) (fit .small) u j hu (omega arith) ∙ ap (λ b. b && conflicts N R ws u j) (sym (lt-ltb j N h)))
 
 bit-mono : (a b : Bool) → (a ≡ true → b ≡ true) → cond a 1 0 ≤ cond b 1 0
 bit-mono true true h = omega arith
@@ -48,7 +48,7 @@ best-same f g (suc k) c b h l =
     let e : ltb (f b) (f c) ≡ ltb (g b) (g c) = ap₂ ltb (h b (omega arith)) (h c (omega arith)) in
     ap (λ z. firstBest f k (suc c) (cond z c b)) e
     ∙ best-same f g k (suc c) (cond (ltb (g b) (g c)) c b) (λ j m. h j (omega arith))
-      (cond-both (ltb (g b) (g c)) c b (λ z. z < suc c + k) (λ _. omega arith) (λ _. omega arith))
+    (cond-both (ltb (g b) (g c)) c b (λ z. z < suc c + k) (λ _. omega arith) (λ _. omega arith))
 
 -- the fullest by degrees is the one that the rule starts from
 pub fullest-is : (N : ℕ) (rel : Rel) (ds : List ℕ) → 0 < N → Degrees N rel ds → firstBest (λ c. getD ds c 0 + 1) N 0 0 ≡ chosen N rel nobody (everyone N)
@@ -64,20 +64,24 @@ pub start-sides : (N R : ℕ) (ws a a′ b′ : List ℕ) (c : ℕ) → Fit N R 
 start-sides N R ws a a′ b′ c fit hc empty joins copied = record {
   left-neat = λ j h g. joins j ∙ or-from (marked a j) (eqb c j) (bare j g) (ne-eqb c j (λ e. omega arith));
   right-neat = λ j h g. row j g ∙ fit .tidy c j hc h g;
-  sides = λ i. ((λ j. left j i), (λ j. right j i)) }
+  sides = λ i. ((λ j. left j i), (λ j. right j i));
+}
   where
     bare : (j : ℕ) → j < 64 * R → marked a j ≡ false
     bare j g = ap (λ z. bit z (j % 64)) (empty (j / 64) (omega arith)) ∙ ap (λ z. eqb (z % 2) 1) (zero-div (2 ^ (j % 64)))
+
     row : (j : ℕ) → j < 64 * R → marked b′ j ≡ standsAt ws R c j
     row j g = ap (λ z. bit z (j % 64)) (copied (j / 64) (omega arith))
+
     left : (j : ℕ) → held N a′ j ≡ joinedBy N nobody c j
     left j = ⊎-elim
-      (λ h. let small = fit .small in ap (λ z. ltb j N && z) (joins j ∙ ap (λ z. z || eqb c j) (bare j (omega arith))))
-      (λ h. ap (λ z. z && marked a′ j) (le-ltb j N h) ∙ sym (ap (λ z. z && (false || eqb c j)) (le-ltb j N h))) (cases-lt j N)
+        (λ h. let small = fit .small in ap (λ z. ltb j N && z) (joins j ∙ ap (λ z. z || eqb c j) (bare j (omega arith))))
+        (λ h. ap (λ z. z && marked a′ j) (le-ltb j N h) ∙ sym (ap (λ z. z && (false || eqb c j)) (le-ltb j N h))) (cases-lt j N)
+
     right : (j : ℕ) → held N b′ j ≡ shared (conflicts N R ws) (everyone N) c j
     right j = ⊎-elim
-      (λ h. let small = fit .small in ap (λ z. ltb j N && z) (row j (omega arith) ∙ agree N R ws (fit .tidy) (fit .small) c j hc (omega arith)))
-      (λ h. ap (λ z. z && marked b′ j) (le-ltb j N h) ∙ sym (ap (λ z. z && conflicts N R ws c j) (le-ltb j N h))) (cases-lt j N)
+        (λ h. let small = fit .small in ap (λ z. ltb j N && z) (row j (omega arith) ∙ agree N R ws (fit .tidy) (fit .small) c j hc (omega arith)))
+        (λ h. ap (λ z. z && marked b′ j) (le-ltb j N h) ∙ sym (ap (λ z. z && conflicts N R ws c j) (le-ltb j N h))) (cases-lt j N)
 
 -- ---- degrees after the sides are taken away
 
@@ -97,5 +101,5 @@ recounted N R r vs a b ds ds′ deg left new u h =
     new u h ∙ cond-both (marked a u || marked b u) (count (shared (conflicts N R vs) (everyone N) u) N 0) (getD ds u 0) (λ z. z ≡ count (shared (conflicts N R vs) (everyone N) u) N 0)
     (λ e. refl)
     (λ e. let p = or-parts (marked a u) (marked b u) e in
-      deg u h ∙ same-degree N r (held N a, held N b) u (and-right (ltb u N) _ (p .0)) (and-right (ltb u N) _ (p .1))
-      ∙ ap (λ (q : Rel). count (shared q (everyone N) u) N 0) (sym left))
+    deg u h ∙ same-degree N r (held N a, held N b) u (and-right (ltb u N) _ (p .0)) (and-right (ltb u N) _ (p .1))
+    ∙ ap (λ (q : Rel). count (shared q (everyone N) u) N 0) (sym left))

@@ -71,22 +71,22 @@ split j k h = omega arith
 pub high-bit : (x k j : ℕ) → bit (x / 2 ^ k * 2 ^ k) j ≡ (leb k j && bit x j)
 high-bit x k j =
     ⊎-elim (λ h.
-      -- j < k: the quotient is even
-      let e : 2 ^ k ≡ 2 ^ (k - j - 1) * 2 * 2 ^ j =
-        ap (λ z. 2 ^ z) (let q : k ≡ (k - j - 1 + 1) + j = omega arith in q) ∙ pow-add 2 (k - j - 1 + 1) j ∙ ap (λ z. z * 2 ^ j) (pow-add 2 (k - j - 1) 1) in
-      let f : x / 2 ^ k * 2 ^ k ≡ (x / 2 ^ k * 2 ^ (k - j - 1) * 2) * 2 ^ j =
-        ap (λ z. x / 2 ^ k * z) e ∙ sym (mul-assoc (x / 2 ^ k) (2 ^ (k - j - 1) * 2) (2 ^ j)) ∙ ap (λ z. z * 2 ^ j) (sym (mul-assoc (x / 2 ^ k) (2 ^ (k - j - 1)) 2)) in
-      let g : x / 2 ^ k * 2 ^ k / 2 ^ j ≡ x / 2 ^ k * 2 ^ (k - j - 1) * 2 = ap (λ z. z / 2 ^ j) f ∙ shl-shr _ j in
-      let l = lt-leb k j h in
-      let z : x / 2 ^ k * 2 ^ k / 2 ^ j % 2 ≡ 0 = omega (arith, g) in
-      ne-eqb _ 1 (λ q. omega (arith, q, z)) ∙ ap (λ b. b && bit x j) (sym l))
+    -- j < k: the quotient is even
+    let e : 2 ^ k ≡ 2 ^ (k - j - 1) * 2 * 2 ^ j =
+    ap (λ z. 2 ^ z) (let q : k ≡ (k - j - 1 + 1) + j = omega arith in q) ∙ pow-add 2 (k - j - 1 + 1) j ∙ ap (λ z. z * 2 ^ j) (pow-add 2 (k - j - 1) 1) in
+    let f : x / 2 ^ k * 2 ^ k ≡ (x / 2 ^ k * 2 ^ (k - j - 1) * 2) * 2 ^ j =
+    ap (λ z. x / 2 ^ k * z) e ∙ sym (mul-assoc (x / 2 ^ k) (2 ^ (k - j - 1) * 2) (2 ^ j)) ∙ ap (λ z. z * 2 ^ j) (sym (mul-assoc (x / 2 ^ k) (2 ^ (k - j - 1)) 2)) in
+    let g : x / 2 ^ k * 2 ^ k / 2 ^ j ≡ x / 2 ^ k * 2 ^ (k - j - 1) * 2 = ap (λ z. z / 2 ^ j) f ∙ shl-shr _ j in
+    let l = lt-leb k j h in
+    let z : x / 2 ^ k * 2 ^ k / 2 ^ j % 2 ≡ 0 = omega (arith, g) in
+    ne-eqb _ 1 (λ q. omega (arith, q, z)) ∙ ap (λ b. b && bit x j) (sym l))
     (λ h.
-      let s : k + (j - k) ≡ j = omega arith in
-      let l = le-leb k j h in
-      let e : x / 2 ^ k * 2 ^ k / 2 ^ j ≡ x / 2 ^ j =
-        ap (λ z. x / 2 ^ k * 2 ^ k / 2 ^ z) (sym s) ∙ sym (shr-shr (x / 2 ^ k * 2 ^ k) k (j - k)) ∙ ap (λ z. z / 2 ^ (j - k)) (shl-shr (x / 2 ^ k) k)
-        ∙ shr-shr x k (j - k) ∙ ap (λ z. x / 2 ^ z) s in
-      ap (λ z. eqb (z % 2) 1) e ∙ ap (λ b. b && bit x j) (sym l))
+    let s : k + (j - k) ≡ j = omega arith in
+    let l = le-leb k j h in
+    let e : x / 2 ^ k * 2 ^ k / 2 ^ j ≡ x / 2 ^ j =
+    ap (λ z. x / 2 ^ k * 2 ^ k / 2 ^ z) (sym s) ∙ sym (shr-shr (x / 2 ^ k * 2 ^ k) k (j - k)) ∙ ap (λ z. z / 2 ^ (j - k)) (shl-shr (x / 2 ^ k) k)
+    ∙ shr-shr x k (j - k) ∙ ap (λ z. x / 2 ^ z) s in
+    ap (λ z. eqb (z % 2) 1) e ∙ ap (λ b. b && bit x j) (sym l))
     (cases-lt j k)
 
 -- ---- a bit set, and bits taken away
@@ -145,7 +145,7 @@ differ-lt (suc (suc x)) y h g = absurd (omega arith)
 less-low : (a b : ℕ) → bitXor a (bitAnd a b) % 2 ≡ differ (a % 2) (min (a % 2) (b % 2))
 less-low a b =
     let e : bitXor a (bitAnd a b) ≡ bitXor (a / 2) (bitAnd a b / 2) * 2 + differ (a % 2) (min (a % 2) (b % 2)) =
-      xor-step a (bitAnd a b) ∙ ap (λ z. bitXor (a / 2) (bitAnd a b / 2) * 2 + differ (a % 2) z) (and-low a b) in
+    xor-step a (bitAnd a b) ∙ ap (λ z. bitXor (a / 2) (bitAnd a b / 2) * 2 + differ (a % 2) z) (and-low a b) in
     let l = differ-lt (a % 2) (b % 2) (omega arith) (omega arith) in
     omega (arith, e, l)
 

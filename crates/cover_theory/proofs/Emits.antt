@@ -41,13 +41,14 @@ module _ (N : ℕ) (p : Side) (xs : List ℤ) (at k : ℕ) where
     takes to′ ys′ z e len zl te ye =
         let c = count-step p N j h ∙ ap (λ b. cond b 1 0 + count p (N - (j + 1)) (j + 1)) e in
         let t = those-step p N j h ∙ cond-true (p j) _ _ e in
-        subst (λ n. Emitting N p xs at k (j + 1) n ys′) (sym te) (subst (λ l. Emitting N p xs at k (j + 1) (to + 1) l) (sym ye)
-        (omega (arith, inv .0, c),
+        subst (λ n. Emitting N p xs at k (j + 1) n ys′) (sym te) (subst (λ l. Emitting N p xs at k (j + 1) (to + 1) l) (sym ye) (
+          omega (arith, inv .0, c),
           drop-set-lt (to + 1) ys to z (omega arith) ∙ sym (drop-drop 1 to ys) ∙ ap (drop 1) (inv .1) ∙ drop-drop 1 to xs,
           ap (λ l. l ++ map literal (those p (N - (j + 1)) (j + 1))) (take-more-set ys to z len)
-          ∙ append-assoc (take to ys) (z ∷ []) (map literal (those p (N - (j + 1)) (j + 1)))
-          ∙ ap (λ y. take to ys ++ (y ∷ map literal (those p (N - (j + 1)) (j + 1)))) zl
-          ∙ ap (λ l. take to ys ++ map literal l) (sym t) ∙ inv .2))
+              ∙ append-assoc (take to ys) (z ∷ []) (map literal (those p (N - (j + 1)) (j + 1)))
+              ∙ ap (λ y. take to ys ++ (y ∷ map literal (those p (N - (j + 1)) (j + 1)))) zl
+              ∙ ap (λ l. take to ys ++ map literal l) (sym t) ∙ inv .2,
+        ))
 
     pub leaves : (to′ : ℕ) (ys′ : List ℤ) → p j ≡ false → to′ ≡ to → ys′ ≡ ys → Emitting N p xs at k (j + 1) to′ ys′
     leaves to′ ys′ e te ye =
@@ -61,5 +62,5 @@ module _ (N : ℕ) (p : Side) (xs : List ℤ) (at k : ℕ) where
       let z : N - j ≡ 0 = omega arith in
       let e : to ≡ at + k = omega (arith, inv .0, ap (λ x. count p x j) z) in
       let f : take to ys ≡ take at xs ++ map literal (those p N 0) =
-        sym (append-nil (take to ys)) ∙ ap (λ x. take to ys ++ map literal (those p x j)) (sym z) ∙ inv .2 in
+      sym (append-nil (take to ys)) ∙ ap (λ x. take to ys ++ map literal (those p x j)) (sym z) ∙ inv .2 in
       (e, sym (take-append-drop to ys) ∙ ap₂ (λ a b. a ++ b) f (inv .1 ∙ ap (λ n. drop n xs) e) ∙ append-assoc (take at xs) (map literal (those p N 0)) (drop (at + k) xs))

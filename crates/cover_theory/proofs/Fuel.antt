@@ -43,10 +43,10 @@ pub count-fewer : (p q : Side) (k c j : ℕ) → ((i : ℕ) → q i ≡ true →
 count-fewer p q zero c j sub a b e f = absurd (omega arith)
 count-fewer p q (suc k) c j sub a b e f = ⊎-elim
     (λ z.
-      let x : cond (p c) 1 0 ≡ 1 = ap (λ b. cond {A = ℕ} b 1 0) (ap p z ∙ e) in let y : cond (q c) 1 0 ≡ 0 = ap (λ b. cond {A = ℕ} b 1 0) (ap q z ∙ f) in
-      omega (arith, count-mono q p k (suc c) sub))
+    let x : cond (p c) 1 0 ≡ 1 = ap (λ b. cond {A = ℕ} b 1 0) (ap p z ∙ e) in let y : cond (q c) 1 0 ≡ 0 = ap (λ b. cond {A = ℕ} b 1 0) (ap q z ∙ f) in
+    omega (arith, count-mono q p k (suc c) sub))
     (λ n. let l = count-fewer p q k (suc c) j sub (omega arith) (omega arith) e f in
-      let m = count-mono q p 1 c sub in omega arith)
+    let m = count-mono q p 1 c sub in omega arith)
     (cases-eq c j)
 
 total-mono : (N : ℕ) (r r′ : Rel) (k c : ℕ) → ((u w : ℕ) → r′ u w ≡ true → r u w ≡ true) → total N r′ k c ≤ total N r k c

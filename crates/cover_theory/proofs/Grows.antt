@@ -84,7 +84,7 @@ module _ (N R : ℕ) (ws : List ℕ) (tidy : Tidy N R ws) (loose : Loose N R ws)
   bare-none to ht bare j p q =
       and-left (clashes rel ms j) _
       (let e = masks j (omega arith) (omega arith) in let f = bare j (omega arith) q in
-       ap (λ b. b && clashes rel ms j) (sym (le-leb from j p)) ∙ sym e ∙ f)
+      ap (λ b. b && clashes rel ms j) (sym (le-leb from j p)) ∙ sym e ∙ f)
 
   -- the mask is empty
   pub stop-bare : from ≤ N → Bare mask (from / 64) (64 * R) → grow rel ms (N - from) from ≡ ms
@@ -114,16 +114,16 @@ module _ (N R : ℕ) (ws : List ℕ) (tidy : Tidy N R ws) (loose : Loose N R ws)
         → Masks rel R mask′ (c + 1) (ms ++ c ∷ [])
     masks-on mask′ met j p q =
         let l = from-le in let h = c-lt in
-        met j (omega arith) q ∙ 
+        met j (omega arith) q ∙
         ⊎-elim (λ e.
-          let z : standsAt ws R c j ≡ false = subst (λ y. standsAt ws R c y ≡ false) e (loose c h) in
-          and-right (marked mask j) _ z ∙ sym (and-left (leb (c + 1) j) _ (lt-leb (c + 1) j (omega arith))))
+        let z : standsAt ws R c j ≡ false = subst (λ y. standsAt ws R c y ≡ false) e (loose c h) in
+        and-right (marked mask j) _ z ∙ sym (and-left (leb (c + 1) j) _ (lt-leb (c + 1) j (omega arith))))
         (⊎-elim (λ e.
-          ap (λ b. b && standsAt ws R c j) (masks j (omega arith) q ∙ ap (λ b. b && clashes rel ms j) (le-leb from j (omega arith)))
-          ∙ ap (λ b. clashes rel ms j && b) (agree N R ws tidy small c j h q) ∙ sym (clashes-push rel ms c j)
-          ∙ ap (λ b. b && clashes rel (ms ++ c ∷ []) j) (sym (le-leb (c + 1) j (omega arith))))
-        (λ e. 
-          and-left (marked mask j) _ (low .before j (omega arith) e) ∙ sym (and-left (leb (c + 1) j) _ (lt-leb (c + 1) j (omega arith)))))
+        ap (λ b. b && standsAt ws R c j) (masks j (omega arith) q ∙ ap (λ b. b && clashes rel ms j) (le-leb from j (omega arith)))
+        ∙ ap (λ b. clashes rel ms j && b) (agree N R ws tidy small c j h q) ∙ sym (clashes-push rel ms c j)
+        ∙ ap (λ b. b && clashes rel (ms ++ c ∷ []) j) (sym (le-leb (c + 1) j (omega arith))))
+        (λ e.
+        and-left (marked mask j) _ (low .before j (omega arith) e) ∙ sym (and-left (leb (c + 1) j) _ (lt-leb (c + 1) j (omega arith)))))
         (cases-order c j)
 
 pub grow-full : (rel : Rel) (ms : List ℕ) (N from : ℕ) → from ≤ N → 256 ≤ length ms → grow rel ms (N - from) from ≡ ms

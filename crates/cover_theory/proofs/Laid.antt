@@ -60,7 +60,7 @@ module _ {X Y : Type 0} (f : X → Y) (add : X → Part ℕ → X) (add′ : Y �
       let P = biclique (those (p .0) N 0) (those (p .1) N 0) in
       cond-lift lift (gains N p) (bicliques add N k (withoutSides (s .0) p, add (s .1) P)) s
       ∙ ap (λ z. cond (gains N p) z (lift s))
-        (bicliques-lift k (withoutSides (s .0) p, add (s .1) P) ∙ ap (λ z. bicliques add′ N k (withoutSides (s .0) p, z)) (law (s .1) P))
+      (bicliques-lift k (withoutSides (s .0) p, add (s .1) P) ∙ ap (λ z. bicliques add′ N k (withoutSides (s .0) p, z)) (law (s .1) P))
 
   ruled-lift : (s : Rel × X) → lift (ruled add N s) ≡ ruled add′ N (lift s)
   ruled-lift s = bicliques-lift (N * N) (sweep add N s N 0) ∙ ap (bicliques add′ N (N * N)) (sweep-lift s N 0)
@@ -108,11 +108,11 @@ module _ (n : ℕ) (rel : Rel) (ws vs : List ℕ) (room : wordsNeeded n ≤ leng
       let at : i / rowWords n * rowWords n + i % rowWords n ≡ i = div-add-mod' i (rowWords n) in
       sym (word-bits 64 (getD vs i 0) (fits i))
       ∙ word-same 64 (bit (getD vs i 0)) (λ j. rel (i / rowWords n) (64 * (i % rowWords n) + j))
-        (λ j l.
-          ap₂ (λ x y. bit (getD vs x 0) y)
-            (sym at ∙ ap (λ z. i / rowWords n * rowWords n + z) (let q : i % rowWords n ≡ (64 * (i % rowWords n) + j) / 64 = omega arith in q))
-            (let q : j ≡ (64 * (i % rowWords n) + j) % 64 = omega arith in q)
-          ∙ told (i / rowWords n) (64 * (i % rowWords n) + j) u-in (omega arith))
+      (λ j l.
+      ap₂ (λ x y. bit (getD vs x 0) y)
+      (sym at ∙ ap (λ z. i / rowWords n * rowWords n + z) (let q : i % rowWords n ≡ (64 * (i % rowWords n) + j) / 64 = omega arith in q))
+      (let q : j ≡ (64 * (i % rowWords n) + j) % 64 = omega arith in q)
+      ∙ told (i / rowWords n) (64 * (i % rowWords n) + j) u-in (omega arith))
     where
       positive : (n r i : ℕ) → i < 2 * n * r → 0 < r
       positive n zero i h = absurd (let z = mul-zero (2 * n) in omega arith)
@@ -123,12 +123,12 @@ module _ (n : ℕ) (rel : Rel) (ws vs : List ℕ) (room : wordsNeeded n ≤ leng
       let len : length (wordsHolding n rel) ≡ wordsNeeded n = length-map-counting (λ i. word 64 (λ j. rel (i / rowWords n) (64 * (i % rowWords n) + j))) 0 (wordsNeeded n) in
       same-lists vs (wordsHolding n rel ++ drop (wordsNeeded n) ws) (omega (arith, length-append (wordsHolding n rel) (drop (wordsNeeded n) ws), length-drop (wordsNeeded n) ws))
       (λ k d h. getD-default vs k d 0 h ∙ ⊎-elim
-        (λ l. needed-word k l ∙ sym (getD-append-left (wordsHolding n rel) (drop (wordsNeeded n) ws) d k (omega arith)
-          ∙ getD-map-counting (λ i. word 64 (λ j. rel (i / rowWords n) (64 * (i % rowWords n) + j))) 0 (wordsNeeded n) k k d l (omega arith)))
-        (λ l. rest k l ∙ getD-default ws k 0 d (omega arith)
-          ∙ sym (getD-append-right (wordsHolding n rel) (drop (wordsNeeded n) ws) (wordsNeeded n) k d len l ∙ getD-drop (wordsNeeded n) ws (k - wordsNeeded n) d
-            ∙ ap (λ z. getD ws z d) (let q : wordsNeeded n + (k - wordsNeeded n) ≡ k = omega arith in q)))
-        (cases-lt k (wordsNeeded n)))
+      (λ l. needed-word k l ∙ sym (getD-append-left (wordsHolding n rel) (drop (wordsNeeded n) ws) d k (omega arith)
+      ∙ getD-map-counting (λ i. word 64 (λ j. rel (i / rowWords n) (64 * (i % rowWords n) + j))) 0 (wordsNeeded n) k k d l (omega arith)))
+      (λ l. rest k l ∙ getD-default ws k 0 d (omega arith)
+      ∙ sym (getD-append-right (wordsHolding n rel) (drop (wordsNeeded n) ws) (wordsNeeded n) k d len l ∙ getD-drop (wordsNeeded n) ws (k - wordsNeeded n) d
+      ∙ ap (λ z. getD ws z d) (let q : wordsNeeded n + (k - wordsNeeded n) ≡ k = omega arith in q)))
+      (cases-lt k (wordsNeeded n)))
 
 -- cleared words
 pub laid-zero : (n : ℕ) (ws vs : List ℕ) → wordsNeeded n ≤ length ws → length vs ≡ length ws
@@ -137,11 +137,11 @@ laid-zero n ws vs room same zeros rest =
     let len : length (replicate {A = ℕ} (wordsNeeded n) 0) ≡ wordsNeeded n = length-replicate {A = ℕ} (wordsNeeded n) 0 in
     same-lists vs (replicate {A = ℕ} (wordsNeeded n) 0 ++ drop (wordsNeeded n) ws) (omega (arith, length-append (replicate {A = ℕ} (wordsNeeded n) 0) (drop (wordsNeeded n) ws), length-drop (wordsNeeded n) ws))
     (λ k d h. getD-default vs k d 0 h ∙ ⊎-elim
-      (λ l. zeros k l ∙ sym (getD-append-left (replicate {A = ℕ} (wordsNeeded n) 0) (drop (wordsNeeded n) ws) d k (omega arith) ∙ getD-replicate (wordsNeeded n) k 0 d l))
-      (λ l. rest k l ∙ getD-default ws k 0 d (omega arith)
-        ∙ sym (getD-append-right (replicate {A = ℕ} (wordsNeeded n) 0) (drop (wordsNeeded n) ws) (wordsNeeded n) k d len l ∙ getD-drop (wordsNeeded n) ws (k - wordsNeeded n) d
-          ∙ ap (λ z. getD ws z d) (let q : wordsNeeded n + (k - wordsNeeded n) ≡ k = omega arith in q)))
-      (cases-lt k (wordsNeeded n)))
+    (λ l. zeros k l ∙ sym (getD-append-left (replicate {A = ℕ} (wordsNeeded n) 0) (drop (wordsNeeded n) ws) d k (omega arith) ∙ getD-replicate (wordsNeeded n) k 0 d l))
+    (λ l. rest k l ∙ getD-default ws k 0 d (omega arith)
+    ∙ sym (getD-append-right (replicate {A = ℕ} (wordsNeeded n) 0) (drop (wordsNeeded n) ws) (wordsNeeded n) k d len l ∙ getD-drop (wordsNeeded n) ws (k - wordsNeeded n) d
+    ∙ ap (λ z. getD ws z d) (let q : wordsNeeded n + (k - wordsNeeded n) ≡ k = omega arith in q)))
+    (cases-lt k (wordsNeeded n)))
 
 -- ---- the list, zero from `to` on
 
@@ -153,9 +153,9 @@ laid-list xs ys to room same front zeros =
     let tail = length-replicate (length xs - to) (pos 0) in
     same-lists ys (take to xs ++ replicate (length xs - to) (pos 0)) (omega (arith, length-append (take to xs) (replicate (length xs - to) (pos 0))))
     (λ k d h. getD-default ys k d (pos 0) h ∙ ⊎-elim
-      (λ l. front k l ∙ getD-default xs k (pos 0) d (omega arith) ∙ sym (getD-append-left (take to xs) (replicate (length xs - to) (pos 0)) d k (omega arith) ∙ getD-take to xs k d l))
-      (λ l. zeros k l (omega arith) ∙ sym (getD-append-right (take to xs) (replicate (length xs - to) (pos 0)) to k d len l ∙ getD-replicate (length xs - to) (k - to) (pos 0) d (omega arith)))
-      (cases-lt k to))
+    (λ l. front k l ∙ getD-default xs k (pos 0) d (omega arith) ∙ sym (getD-append-left (take to xs) (replicate (length xs - to) (pos 0)) d k (omega arith) ∙ getD-take to xs k d l))
+    (λ l. zeros k l (omega arith) ∙ sym (getD-append-right (take to xs) (replicate (length xs - to) (pos 0)) to k d len l ∙ getD-replicate (length xs - to) (k - to) (pos 0) d (omega arith)))
+    (cases-lt k to))
 
 -- a list whose first numbers are those of the parts, with zeros after them
 pub list-holds : (xs ns : List ℤ) (to : ℕ) → to ≤ length xs → take to xs ≡ ns → take to xs ++ replicate (length xs - to) (pos 0) ≡ ns ++ replicate (length xs - length ns) (pos 0)
@@ -168,12 +168,13 @@ same-conflicts N R ws vs small h = λ i u w. at u w i
   where
     at : (u w : ℕ) → conflicts N R vs u w ≡ conflicts N R ws u w
     at u w = ⊎-elim
-      (λ a. ⊎-elim
+        (λ a. ⊎-elim
         (λ b. ap (λ z. ltb u N && (ltb w N && bit z (w % 64))) (h (u * R + w / 64) (omega (arith, mul-add-lt u R (w / 64) N a (omega arith), mul-comm N R))))
         (λ b. both-far (ltb u N) (ltb w N) (standsAt vs R u w) (standsAt ws R u w) (le-ltb w N b)) (cases-lt w N))
-      (λ a. both-near (ltb u N) (ltb w N && standsAt vs R u w) (ltb w N && standsAt ws R u w) (le-ltb u N a)) (cases-lt u N)
+        (λ a. both-near (ltb u N) (ltb w N && standsAt vs R u w) (ltb w N && standsAt ws R u w) (le-ltb u N a)) (cases-lt u N)
       where
         both-near : (a x y : Bool) → a ≡ false → (a && x) ≡ (a && y)
         both-near a x y e = ap (λ z. z && x) e ∙ sym (ap (λ z. z && y) e)
+
         both-far : (a b x y : Bool) → b ≡ false → (a && (b && x)) ≡ (a && (b && y))
         both-far a b x y e = ap (λ z. a && (z && x)) e ∙ sym (ap (λ z. a && (z && y)) e)

@@ -59,8 +59,9 @@ module _ (n : ℕ) (ws : List ℕ) where
     given = record {
       bound = λ u w h. let p = parts-of u w h in (p .0, p .1);
       back = λ u w h. let p = parts-of u w h in
-        related w u (p .1) (p .0) (sym (ap₂ (stands n ws) (index-literal w) (index-literal u)) ∙ both (literal u) (literal w) (conflict-at u w (p .0) (p .1) (p .2)));
-      loose = λ u h. apart-at u u h refl }
+          related w u (p .1) (p .0) (sym (ap₂ (stands n ws) (index-literal w) (index-literal u)) ∙ both (literal u) (literal w) (conflict-at u w (p .0) (p .1) (p .2)));
+      loose = λ u h. apart-at u u h refl;
+    }
 
     -- THE LAW of the cover of a network
     pub net-partition : Partition n (Conflict (netIn n ws)) (coverOf n (conflictsIn n ws))
@@ -73,7 +74,8 @@ module _ (n : ℕ) (ws : List ℕ) where
       loose = λ u a. at u u a (omega arith) ∙ ⊎-elim (λ e. absurd (apart-at u u (related u u a a e) refl)) (λ e. e) (cases-bool (stands n ws u u));
       small = omega arith;
       few = omega arith;
-      room = room }
+      room = room;
+    }
       where
         at : (u w : ℕ) → u < 2 * n → w < 64 * rowWords n → standsAt vs (rowWords n) u w ≡ stands n ws u w
         at u w a b = ap (λ z. bit z (w % 64)) (same (u * rowWords n + w / 64) (omega (arith, mul-add-lt u (rowWords n) (w / 64) (2 * n) a (omega arith), mul-comm (2 * n) (rowWords n))))
@@ -91,6 +93,7 @@ net-alone n ws vs h = ap (coverOf n) (λ i u w. same u w i)
     one xs ys f u w e =
         let p = parts-of n xs u w e in
         related n ys u w (p .0) (p .1) (sym (ap₂ (stands n ys) (index-literal u) (index-literal w)) ∙ f (literal u) (literal w) (conflict-at n xs u w (p .0) (p .1) (p .2)) .2)
+
     same : (u w : ℕ) → conflictsIn n ws u w ≡ conflictsIn n vs u w
     same u w = iff-bools _ _ (one ws vs (λ a b. h a b .0) u w) (one vs ws (λ a b. h a b .1) u w)
 

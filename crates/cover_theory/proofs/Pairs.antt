@@ -79,10 +79,10 @@ module _ (xs : List ℤ) (A B : List ℕ) (at x y : ℕ) (mx py : ℤ) (xa : len
   written =
       two
       ∙ ap₂ (λ l d. l ++ (map literal B ++ d))
-        (ap (take (at + 2 + x)) first ∙ take-at (take at xs ++ (mx ∷ py ∷ map literal A)) (drop (at + 2 + x) xs) (at + 2 + x) front-length)
-        (sym (drop-drop y (at + 2 + x) ys₁) ∙ ap (λ l. drop y (drop (at + 2 + x) l)) first
-          ∙ ap (drop y) (drop-at (take at xs ++ (mx ∷ py ∷ map literal A)) (drop (at + 2 + x) xs) (at + 2 + x) front-length)
-          ∙ drop-drop y (at + 2 + x) xs ∙ ap (λ n. drop n xs) (let q : at + 2 + x + y ≡ at + x + y + 2 = omega arith in q))
+      (ap (take (at + 2 + x)) first ∙ take-at (take at xs ++ (mx ∷ py ∷ map literal A)) (drop (at + 2 + x) xs) (at + 2 + x) front-length)
+      (sym (drop-drop y (at + 2 + x) ys₁) ∙ ap (λ l. drop y (drop (at + 2 + x) l)) first
+      ∙ ap (drop y) (drop-at (take at xs ++ (mx ∷ py ∷ map literal A)) (drop (at + 2 + x) xs) (at + 2 + x) front-length)
+      ∙ drop-drop y (at + 2 + x) xs ∙ ap (λ n. drop n xs) (let q : at + 2 + x + y ≡ at + x + y + 2 = omega arith in q))
       ∙ append-assoc (take at xs) (mx ∷ py ∷ map literal A) (map literal B ++ drop (at + x + y + 2) xs)
       ∙ ap₂ (λ u v. take at xs ++ (u ∷ v ∷ (map literal A ++ (map literal B ++ drop (at + x + y + 2) xs)))) (e ∙ ap minus (sym xa)) (f ∙ ap pos (sym yb))
       ∙ ap (λ l. take at xs ++ (minus (length A) ∷ pos (length B) ∷ l)) (sym (append-assoc (map literal A) (map literal B) (drop (at + x + y + 2) xs)))
@@ -102,16 +102,18 @@ severed ws vs a b N R small gone = λ i u j. at u j i
     pick : (p t : Bool) → (p && false) ≡ ((p && false) && t)
     pick true t = refl
     pick false t = refl
+
     full : (l m p q r s : Bool) → l ≡ true → m ≡ true → ((p && q) || (r && s)) ≡ (((l && p) && (m && q)) || ((l && r) && (m && s)))
     full l m p q r s e f = ap₂ (λ x y. ((x && p) && (y && q)) || ((x && r) && (y && s))) (sym e) (sym f)
+
     at : (u j : ℕ) → conflicts N R vs u j ≡ withoutSides (conflicts N R ws) (held N a, held N b) u j
     at u j =
         ⊎-elim (λ h. ⊎-elim (λ g.
-          ap (λ z. ltb u N && (ltb j N && z)) (gone u j h (omega arith))
-          ∙ and-out (ltb u N) (ltb j N) (standsAt ws R u j) _
-          ∙ ap (λ z. (ltb u N && (ltb j N && standsAt ws R u j)) && not z) (full (ltb u N) (ltb j N) (marked a u) (marked b j) (marked b u) (marked a j) (lt-ltb u N h) (lt-ltb j N g)))
+        ap (λ z. ltb u N && (ltb j N && z)) (gone u j h (omega arith))
+        ∙ and-out (ltb u N) (ltb j N) (standsAt ws R u j) _
+        ∙ ap (λ z. (ltb u N && (ltb j N && standsAt ws R u j)) && not z) (full (ltb u N) (ltb j N) (marked a u) (marked b j) (marked b u) (marked a j) (lt-ltb u N h) (lt-ltb j N g)))
         (λ g. ap (λ z. ltb u N && (z && standsAt vs R u j)) (le-ltb j N g) ∙ pick (ltb u N) (not ((held N a u && held N b j) || (held N b u && held N a j)))
-          ∙ sym (ap (λ z. (ltb u N && (z && standsAt ws R u j)) && not ((held N a u && held N b j) || (held N b u && held N a j))) (le-ltb j N g))) (cases-lt j N))
+        ∙ sym (ap (λ z. (ltb u N && (z && standsAt ws R u j)) && not ((held N a u && held N b j) || (held N b u && held N a j))) (le-ltb j N g))) (cases-lt j N))
         (λ h. ap (λ z. z && (ltb j N && standsAt vs R u j)) (le-ltb u N h) ∙ sym (ap (λ z. (z && (ltb j N && standsAt ws R u j)) && not ((held N a u && held N b j) || (held N b u && held N a j))) (le-ltb u N h))) (cases-lt u N)
 
 module _ (N R : ℕ) (ws vs : List ℕ) (xs ys : List ℤ) (at to : ℕ) (P : Part ℕ) (rel : Rel) (fit : Fit N R ws) (same : length vs ≡ length ws)
@@ -131,12 +133,16 @@ module _ (N R : ℕ) (ws vs : List ℕ) (xs ys : List ℤ) (at to : ℕ) (P : Pa
     fit = record {
       tidy = λ a j p q r. cut a j p r (fit .tidy a j p q r);
       loose = λ a p. let small = fit .small in cut a a p (omega arith) (fit .loose a p);
-      small = fit .small; few = fit .few; room = omega (arith, fit .room) };
+      small = fit .small;
+      few = fit .few;
+      room = omega (arith, fit .room);
+    };
     rest = rest;
     state = λ i. (left i, (ap (take to) regrouped ∙ take-at (take at xs ++ listed P) (drop to xs) to front′) i);
     tail = ap (drop to) regrouped ∙ drop-at (take at xs ++ listed P) (drop to xs) to front′;
     low = omega arith;
-    high = at-in }
+    high = at-in;
+  }
 
   pub part-short : (n : ℕ) → n < to → n < length (told (take at xs) P)
   part-short n h = omega (arith, front′)

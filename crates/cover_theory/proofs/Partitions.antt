@@ -39,15 +39,16 @@ joins-forth (biclique xs ys) u w (inr j) = inr (map-in literal ys u (j .0), map-
 
 apart-literals : (Ps : List (Part ℕ)) → ApartAt Ps → Apart (map ofLiterals Ps)
 apart-literals [] h = tt
-apart-literals (P ∷ Ps) h =
-    ((λ Q q p p′ j k.
+apart-literals (P ∷ Ps) h = (
+  (λ Q q p p′ j k.
       let x = in-map ofLiterals Ps Q q in
       let a = joins-back P p p′ j in
       let b = joins-back (x .0) p p′ (subst (λ z. Joins z p p′) (sym (x .2)) k) in
       let e = same-literal (b .0) (a .0) (b .2 ∙ sym (a .2)) in
       let f = same-literal (b .1) (a .1) (b .3 ∙ sym (a .3)) in
       h .0 (x .0) (x .1) (a .0) (a .1) (a .4) (subst (λ z. Joins (x .0) (a .0) z) f (subst (λ z. Joins (x .0) z (b .1)) e (b .4)))),
-      apart-literals Ps (h .1))
+  apart-literals Ps (h .1),
+)
 
 distinct : (rel : Rel) → ((u w : ℕ) → rel u w ≡ true → u / 2 ≡ w / 2 → ⊥) → (ms : List ℕ) → Pairwise rel ms → DistinctVariables (map literal ms)
 distinct rel apart [] h i j p q e = absurd (omega arith)
@@ -67,12 +68,16 @@ sound-literals : (n : ℕ) (rel : Rel) → ((u w : ℕ) → rel u w ≡ true →
 sound-literals n rel apart (clique ms) h =
     let l = length-map ms literal in
     (literals n ms (h .0), distinct rel apart ms (h .1), omega (arith, h .2), omega (arith, h .3))
-sound-literals n rel apart (biclique xs ys) h =
-    (literals n xs (h .0), literals n ys (h .1), map-once literal same-literal xs (h .2), map-once literal same-literal ys (h .3),
-      (λ p i j. let x = in-map literal xs p i in let y = in-map literal ys p j in
-        h .4 (x .0) (x .1) (subst (λ z. In z ys) (same-literal (y .0) (x .0) (y .2 ∙ sym (x .2))) (y .1))),
-      subst (λ z. z + length (map literal ys) < z * length (map literal ys)) (sym (length-map xs literal))
-      (subst (λ z. length xs + z < length xs * z) (sym (length-map ys literal)) (h .5)))
+sound-literals n rel apart (biclique xs ys) h = (
+  literals n xs (h .0),
+  literals n ys (h .1),
+  map-once literal same-literal xs (h .2),
+  map-once literal same-literal ys (h .3),
+  (λ p i j. let x = in-map literal xs p i in let y = in-map literal ys p j in
+      h .4 (x .0) (x .1) (subst (λ z. In z ys) (same-literal (y .0) (x .0) (y .2 ∙ sym (x .2))) (y .1))),
+  subst (λ z. z + length (map literal ys) < z * length (map literal ys)) (sym (length-map xs literal))
+      (subst (λ z. length xs + z < length xs * z) (sym (length-map ys literal)) (h .5)),
+)
 
 -- ---- remaining pairs
 
@@ -83,8 +88,8 @@ pub pairs-back : (N : ℕ) (r : Rel) (k c : ℕ) (p q : ℤ) → In (p, q) (pair
 pairs-back N r zero c p q i = absurd i
 pairs-back N r (suc k) c p q i = ⊎-elim
     (λ j. let x = in-map (λ w. (literal c, literal w)) (those (r c) (N - suc c) (suc c)) (p, q) j in
-      let t = those-in (r c) (N - suc c) (suc c) (x .0) (x .1) in
-      (c, x .0, ap (λ (z : ℤ × ℤ). z .0) (x .2), ap (λ (z : ℤ × ℤ). z .1) (x .2), t .2, omega arith, omega (arith, t .0)))
+    let t = those-in (r c) (N - suc c) (suc c) (x .0) (x .1) in
+    (c, x .0, ap (λ (z : ℤ × ℤ). z .0) (x .2), ap (λ (z : ℤ × ℤ). z .1) (x .2), t .2, omega arith, omega (arith, t .0)))
     (λ j. let x = pairs-back N r k (suc c) p q j in (x .0, x .1, x .2, x .3, x .4, omega (arith, x .5), x .6))
     (in-cases (p, q) (map (λ w. (literal c, literal w)) (those (r c) (N - suc c) (suc c))) (pairsFrom N r k (suc c)) i)
 
@@ -92,28 +97,30 @@ pub pairs-forth : (N : ℕ) (r : Rel) (k c u w : ℕ) → c ≤ u → u < c + k 
 pairs-forth N r zero c u w a b l h e = absurd (omega arith)
 pairs-forth N r (suc k) c u w a b l h e = ⊎-elim
     (λ f. in-left (literal u, literal w) (map (λ w. (literal c, literal w)) (those (r c) (N - suc c) (suc c))) (pairsFrom N r k (suc c))
-      (subst (λ z. In {X = ℤ × ℤ} (literal z, literal w) (map (λ w. (literal c, literal w)) (those (r c) (N - suc c) (suc c)))) f
-        (map-in (λ w. (literal c, literal w)) (those (r c) (N - suc c) (suc c)) w (in-those (r c) (N - suc c) (suc c) w (omega (arith, f), omega (arith, f), subst (λ z. r z w ≡ true) (sym f) e)))))
+    (subst (λ z. In {X = ℤ × ℤ} (literal z, literal w) (map (λ w. (literal c, literal w)) (those (r c) (N - suc c) (suc c)))) f
+    (map-in (λ w. (literal c, literal w)) (those (r c) (N - suc c) (suc c)) w (in-those (r c) (N - suc c) (suc c) w (omega (arith, f), omega (arith, f), subst (λ z. r z w ≡ true) (sym f) e)))))
     (⊎-elim (λ g. in-right (literal u, literal w) (map (λ w. (literal c, literal w)) (those (r c) (N - suc c) (suc c))) (pairsFrom N r k (suc c)) (pairs-forth N r k (suc c) u w (omega arith) (omega arith) l h e))
-      (λ g. absurd (omega arith))) (cases-order c u)
+    (λ g. absurd (omega arith))) (cases-order c u)
 
 once-append : (xs ys : List (ℤ × ℤ)) → Once xs → Once ys → ((p q : ℤ) → In (p, q) xs → Remains ys p q → ⊥) → Once (xs ++ ys)
 once-append [] ys a b f = b
-once-append (x ∷ xs) ys a b f =
-    ((λ r. ⊎-elim
+once-append (x ∷ xs) ys a b f = (
+  (λ r. ⊎-elim
       (λ i. ⊎-elim (λ j. a .0 (inl j)) (λ j. f (x .0) (x .1) (inl refl) (inl j)) (in-cases (x .0, x .1) xs ys i))
       (λ i. ⊎-elim (λ j. a .0 (inr j)) (λ j. f (x .0) (x .1) (inl refl) (inr j)) (in-cases (x .1, x .0) xs ys i)) r),
-      once-append xs ys (a .1) b (λ p q i. f p q (inr i)))
+  once-append xs ys (a .1) b (λ p q i. f p q (inr i)),
+)
 
 once-row : (u : ℕ) (ws : List ℕ) → ((w : ℕ) → In w ws → u < w) → NoRepeats ws → Once (map (λ w. (literal u, literal w)) ws)
 once-row u [] h g = tt
-once-row u (w ∷ ws) h g =
-    ((λ r. ⊎-elim
+once-row u (w ∷ ws) h g = (
+  (λ r. ⊎-elim
       (λ i. let x = in-map (λ w. (literal u, literal w)) ws (literal u, literal w) i in
-        g .0 (subst (λ z. In z ws) (same-literal (x .0) w (ap (λ (z : ℤ × ℤ). z .1) (x .2))) (x .1)))
+      g .0 (subst (λ z. In z ws) (same-literal (x .0) w (ap (λ (z : ℤ × ℤ). z .1) (x .2))) (x .1)))
       (λ i. let x = in-map (λ w. (literal u, literal w)) ws (literal w, literal u) i in
-        let e = same-literal u w (ap (λ (z : ℤ × ℤ). z .0) (x .2)) in omega (arith, h w (inl refl))) r),
-      once-row u ws (λ z i. h z (inr i)) (g .1))
+      let e = same-literal u w (ap (λ (z : ℤ × ℤ). z .0) (x .2)) in omega (arith, h w (inl refl))) r),
+  once-row u ws (λ z i. h z (inr i)) (g .1),
+)
 
 pub pairs-once : (N : ℕ) (r : Rel) (k c : ℕ) → Once (pairsFrom N r k c)
 pairs-once N r zero c = tt
@@ -122,10 +129,10 @@ pairs-once N r (suc k) c =
     (once-row c (those (r c) (N - suc c) (suc c)) (λ w i. omega (arith, those-in (r c) (N - suc c) (suc c) w i .0)) (those-once (r c) (N - suc c) (suc c)))
     (pairs-once N r k (suc c))
     (λ p q i m. let x = in-map (λ w. (literal c, literal w)) (those (r c) (N - suc c) (suc c)) (p, q) i in
-      let e : literal c ≡ p = ap (λ (z : ℤ × ℤ). z .0) (x .2) in
-      ⊎-elim
-      (λ j. let y = pairs-back N r k (suc c) p q j in omega (arith, y .5, same-literal (y .0) c (y .2 ∙ sym e)))
-      (λ j. let y = pairs-back N r k (suc c) q p j in omega (arith, y .5, y .6, same-literal (y .1) c (y .3 ∙ sym e))) m)
+    let e : literal c ≡ p = ap (λ (z : ℤ × ℤ). z .0) (x .2) in
+    ⊎-elim
+    (λ j. let y = pairs-back N r k (suc c) p q j in omega (arith, y .5, same-literal (y .0) c (y .2 ∙ sym e)))
+    (λ j. let y = pairs-back N r k (suc c) q p j in omega (arith, y .5, y .6, same-literal (y .1) c (y .3 ∙ sym e))) m)
 
 -- ---- THE PARTITION
 
@@ -136,8 +143,11 @@ module _ (n : ℕ) (rel : Rel) (g : Given (2 * n) rel) (apart : (u w : ℕ) → 
   at : (u w : ℕ) (p q : ℤ) → literal u ≡ p → literal w ≡ q → rel u w ≡ true → Clash p q
   at u w p q e f h =
       let b = g .bound u w h in
-      clash p q (subst (Literal n) e (literal-within n u (b .0)), subst (Literal n) f (literal-within n w (b .1)),
-        ap₂ rel (ap index (sym e) ∙ index-literal u) (ap index (sym f) ∙ index-literal w) ∙ h)
+      clash p q (
+        subst (Literal n) e (literal-within n u (b .0)),
+        subst (Literal n) f (literal-within n w (b .1)),
+        ap₂ rel (ap index (sym e) ∙ index-literal u) (ap index (sym f) ∙ index-literal w) ∙ h,
+      )
 
   whole : Split (2 * n) rel (covering (2 * n) rel)
   whole = covering-splits (2 * n) rel g
@@ -147,31 +157,35 @@ module _ (n : ℕ) (rel : Rel) (g : Given (2 * n) rel) (apart : (u w : ℕ) → 
       let b = g .bound u w (whole .within u w h) in
       ⊎-elim (λ z. absurd (g .loose u (whole .within u u (subst (λ y. covering (2 * n) rel .0 u y ≡ true) (sym z) h))))
       (⊎-elim
-        (λ l. inl (subst (λ z. In z (coverOf n rel .remaining)) (ap₂ (λ (a b : ℤ). (a, b)) e f) (pairs-forth (2 * n) (covering (2 * n) rel .0) (2 * n) 0 u w (omega arith) (omega (arith, b .0)) l (b .1) h)))
-        (λ l. inr (subst (λ z. In z (coverOf n rel .remaining)) (ap₂ (λ (a b : ℤ). (a, b)) f e) (pairs-forth (2 * n) (covering (2 * n) rel .0) (2 * n) 0 w u (omega arith) (omega (arith, b .1)) l (b .0) (whole .back u w h)))))
+      (λ l. inl (subst (λ z. In z (coverOf n rel .remaining)) (ap₂ (λ (a b : ℤ). (a, b)) e f) (pairs-forth (2 * n) (covering (2 * n) rel .0) (2 * n) 0 u w (omega arith) (omega (arith, b .0)) l (b .1) h)))
+      (λ l. inr (subst (λ z. In z (coverOf n rel .remaining)) (ap₂ (λ (a b : ℤ). (a, b)) f e) (pairs-forth (2 * n) (covering (2 * n) rel .0) (2 * n) 0 w u (omega arith) (omega (arith, b .1)) l (b .0) (whole .back u w h)))))
       (cases-order u w)
 
   pub partition : Partition n Clash (coverOf n rel)
   partition = record {
     sound = λ P i. let x = in-map ofLiterals (covering (2 * n) rel .1) P i in subst (Sound n) (x .2) (sound-literals n rel apart (x .0) (whole .sound (x .0) (x .1)));
     joined = λ P i p q j. let x = in-map ofLiterals (covering (2 * n) rel .1) P i in
-      let y = joins-back (x .0) p q (subst (λ z. Joins z p q) (sym (x .2)) j) in
-      at (y .0) (y .1) p q (y .2) (y .3) (whole .joined (x .0) (x .1) (y .0) (y .1) (y .4));
+        let y = joins-back (x .0) p q (subst (λ z. Joins z p q) (sym (x .2)) j) in
+        at (y .0) (y .1) p q (y .2) (y .3) (whole .joined (x .0) (x .1) (y .0) (y .1) (y .4));
     left = λ p q i. let y = pairs-back (2 * n) (covering (2 * n) rel .0) (2 * n) 0 p q i in at (y .0) (y .1) p q (y .2) (y .3) (whole .within (y .0) (y .1) (y .4));
     everywhere = λ p q c. let t = tells p q c in
-      let e = literal-index p (t .0 .0) in let f = literal-index q (t .1 .0) in
-      ⊎-elim
-      (λ x. inl (ofLiterals (x .0), map-in ofLiterals (covering (2 * n) rel .1) (x .0) (x .1),
-        subst (λ z. Joins (ofLiterals (x .0)) z q) e (subst (λ z. Joins (ofLiterals (x .0)) (literal (index p)) z) f (joins-forth (x .0) (index p) (index q) (x .2)))))
-      (λ h. inr (remains (index p) (index q) p q e f h)) (whole .everywhere (index p) (index q) (t .2));
+        let e = literal-index p (t .0 .0) in let f = literal-index q (t .1 .0) in
+        ⊎-elim
+        (λ x. inl (
+          ofLiterals (x .0),
+          map-in ofLiterals (covering (2 * n) rel .1) (x .0) (x .1),
+          subst (λ z. Joins (ofLiterals (x .0)) z q) e (subst (λ z. Joins (ofLiterals (x .0)) (literal (index p)) z) f (joins-forth (x .0) (index p) (index q) (x .2))),
+        ))
+        (λ h. inr (remains (index p) (index q) p q e f h)) (whole .everywhere (index p) (index q) (t .2));
     apart = apart-literals (covering (2 * n) rel .1) (whole .apart);
     once = pairs-once (2 * n) (covering (2 * n) rel .0) (2 * n) 0;
     beside = λ P i p q j m. let x = in-map ofLiterals (covering (2 * n) rel .1) P i in
-      let y = joins-back (x .0) p q (subst (λ z. Joins z p q) (sym (x .2)) j) in
-      ⊎-elim
-      (λ k. let z = pairs-back (2 * n) (covering (2 * n) rel .0) (2 * n) 0 p q k in
+        let y = joins-back (x .0) p q (subst (λ z. Joins z p q) (sym (x .2)) j) in
+        ⊎-elim
+        (λ k. let z = pairs-back (2 * n) (covering (2 * n) rel .0) (2 * n) 0 p q k in
         whole .beside (x .0) (x .1) (y .0) (y .1) (y .4)
         (ap₂ (covering (2 * n) rel .0) (same-literal (y .0) (z .0) (y .2 ∙ sym (z .2))) (same-literal (y .1) (z .1) (y .3 ∙ sym (z .3))) ∙ z .4))
-      (λ k. let z = pairs-back (2 * n) (covering (2 * n) rel .0) (2 * n) 0 q p k in
+        (λ k. let z = pairs-back (2 * n) (covering (2 * n) rel .0) (2 * n) 0 q p k in
         whole .beside (x .0) (x .1) (y .0) (y .1) (y .4)
-        (ap₂ (covering (2 * n) rel .0) (same-literal (y .0) (z .1) (y .2 ∙ sym (z .3))) (same-literal (y .1) (z .0) (y .3 ∙ sym (z .2))) ∙ whole .back (z .0) (z .1) (z .4))) m }
+        (ap₂ (covering (2 * n) rel .0) (same-literal (y .0) (z .1) (y .2 ∙ sym (z .3))) (same-literal (y .1) (z .0) (y .3 ∙ sym (z .2))) ∙ whole .back (z .0) (z .1) (z .4))) m;
+  }

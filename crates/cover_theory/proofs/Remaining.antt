@@ -44,9 +44,9 @@ rest-is N R ws u fit hu =
     let z = count-cut q 0 (u + 1) (omega arith) (λ j a b. and-left (leb (u + 1) j) _ (lt-leb (u + 1) j (omega arith))) in
     let s : count q (u + 1 + (N - (u + 1))) 0 ≡ count q (u + 1) 0 + count q (N - (u + 1)) (0 + (u + 1)) = count-split q (u + 1) (N - (u + 1)) 0 in
     let t : count q (N - (u + 1)) (0 + (u + 1)) ≡ count (conflicts N R ws u) (N - (u + 1)) (u + 1) =
-      count-as q (conflicts N R ws u) (N - (u + 1)) (0 + (u + 1)) (u + 1)
-      (λ k l. ap q (let e : 0 + (u + 1) + k ≡ u + 1 + k = omega arith in e) ∙ ap (λ b. b && standsAt ws R u (u + 1 + k)) (le-leb (u + 1) (u + 1 + k) (omega arith))
-        ∙ agree N R ws (fit .tidy) (fit .small) u (u + 1 + k) hu (omega arith)) in
+    count-as q (conflicts N R ws u) (N - (u + 1)) (0 + (u + 1)) (u + 1)
+    (λ k l. ap q (let e : 0 + (u + 1) + k ≡ u + 1 + k = omega arith in e) ∙ ap (λ b. b && standsAt ws R u (u + 1 + k)) (le-leb (u + 1) (u + 1 + k) (omega arith))
+    ∙ agree N R ws (fit .tidy) (fit .small) u (u + 1 + k) hu (omega arith)) in
     count-cut q N (64 * R) (fit .small) (λ j a b. and-right (leb (u + 1) j) _ (fit .tidy u j hu a b))
     ∙ ap (λ n. count q n 0) (let e : N ≡ u + 1 + (N - (u + 1)) = omega arith in e) ∙ s ∙ omega arith
 

@@ -37,12 +37,12 @@ pub marked-set : (mask : List ℕ) (c j y : ℕ) → c / 64 < length mask → ((
     → marked (set mask (c / 64) y) j ≡ (marked mask j || eqb c j)
 marked-set mask c j y h y-is =
     ⊎-elim (λ e.
-      ap (λ z. bit z (j % 64)) (ap (λ z. getD (set mask (c / 64) y) z 0) e ∙ getD-set-same mask (c / 64) y 0 h) ∙ y-is (j % 64)
-      ∙ ap₂ (λ z b. bit (getD mask z 0) (j % 64) || b) (sym e) (same-bit c j e))
+    ap (λ z. bit z (j % 64)) (ap (λ z. getD (set mask (c / 64) y) z 0) e ∙ getD-set-same mask (c / 64) y 0 h) ∙ y-is (j % 64)
+    ∙ ap₂ (λ z b. bit (getD mask z 0) (j % 64) || b) (sym e) (same-bit c j e))
     (λ ne.
-      let ne′ : j / 64 ≢ c / 64 = ne in
-      ap (λ z. bit z (j % 64)) (getD-set-other mask (c / 64) (j / 64) y 0 ne′)
-      ∙ sym (ap (λ b. marked mask j || b) (ne-eqb c j (λ e. ne (ap (λ z. z / 64) (sym e)))) ∙ or-none (marked mask j)))
+    let ne′ : j / 64 ≢ c / 64 = ne in
+    ap (λ z. bit z (j % 64)) (getD-set-other mask (c / 64) (j / 64) y 0 ne′)
+    ∙ sym (ap (λ b. marked mask j || b) (ne-eqb c j (λ e. ne (ap (λ z. z / 64) (sym e)))) ∙ or-none (marked mask j)))
     (cases-eq (j / 64) (c / 64))
 
 pub painted : (mask xs : List ℕ) (i j c y : ℕ) → i < length xs → c ≡ getD xs i 0 → c / 64 < length mask → ((k : ℕ) → bit y k ≡ (bit (getD mask (c / 64) 0) k || eqb (c % 64) k))
@@ -64,14 +64,14 @@ module _ (ws vs mask : List ℕ) (N R c : ℕ)
   pub erased : (u j : ℕ) → j < 64 * R → standsAt vs R u j ≡ (standsAt ws R u j && not (eqb c u && marked mask j))
   erased u j h =
       ⊎-elim (λ e.
-        ap (λ z. standsAt vs R z j) (sym e) ∙ inside (j / 64) (j % 64) (omega arith)
-        ∙ ap₂ (λ z b. standsAt ws R z j && not (b && marked mask j)) e (sym (eq-eqb c u e)))
+      ap (λ z. standsAt vs R z j) (sym e) ∙ inside (j / 64) (j % 64) (omega arith)
+      ∙ ap₂ (λ z b. standsAt ws R z j && not (b && marked mask j)) e (sym (eq-eqb c u e)))
       (λ ne.
-        let same : getD vs (u * R + j / 64) 0 ≡ getD ws (u * R + j / 64) 0 =
-          ⊎-elim (λ e. absurd (ne e)) (⊎-elim
-            (λ l. after (u * R + j / 64) (omega (arith, mul-le (c + 1) R u R (omega arith) (omega arith), mul-comm (c + 1) R, mul-comm c R)))
-            (λ l. before (u * R + j / 64) (omega (arith, mul-le (u + 1) R c R (omega arith) (omega arith), mul-comm (u + 1) R, mul-comm u R)))) (cases-order c u) in
-        ap (λ z. bit z (j % 64)) same ∙ sym (ap (λ b. standsAt ws R u j && not (b && marked mask j)) (ne-eqb c u ne) ∙ and-true (standsAt ws R u j)))
+      let same : getD vs (u * R + j / 64) 0 ≡ getD ws (u * R + j / 64) 0 =
+      ⊎-elim (λ e. absurd (ne e)) (⊎-elim
+      (λ l. after (u * R + j / 64) (omega (arith, mul-le (c + 1) R u R (omega arith) (omega arith), mul-comm (c + 1) R, mul-comm c R)))
+      (λ l. before (u * R + j / 64) (omega (arith, mul-le (u + 1) R c R (omega arith) (omega arith), mul-comm (u + 1) R, mul-comm u R)))) (cases-order c u) in
+      ap (λ z. bit z (j % 64)) same ∙ sym (ap (λ b. standsAt ws R u j && not (b && marked mask j)) (ne-eqb c u ne) ∙ and-true (standsAt ws R u j)))
       (cases-eq c u)
 
 law : (s a e m : Bool) → ((s && not (a && m)) && not (e && m)) ≡ (s && not ((a || e) && m))
@@ -109,13 +109,15 @@ left ws vs ms N R small gone = λ i u j. at u j i
     at : (u j : ℕ) → conflicts N R vs u j ≡ without (conflicts N R ws) ms u j
     at u j =
         ⊎-elim (λ h. ⊎-elim (λ g.
-          ap (λ b. ltb u N && (ltb j N && b)) (gone u j h (omega arith)) ∙ and-out (ltb u N) (ltb j N) (standsAt ws R u j) (not (among ms u && among ms j)))
+        ap (λ b. ltb u N && (ltb j N && b)) (gone u j h (omega arith)) ∙ and-out (ltb u N) (ltb j N) (standsAt ws R u j) (not (among ms u && among ms j)))
         (λ g. far u j (le-ltb j N g)) (cases-lt j N)) (λ h. near u j (le-ltb u N h)) (cases-lt u N)
       where
         near : (u j : ℕ) → ltb u N ≡ false → conflicts N R vs u j ≡ without (conflicts N R ws) ms u j
         near u j e = ap (λ b. b && (ltb j N && standsAt vs R u j)) e ∙ sym (ap (λ b. (b && (ltb j N && standsAt ws R u j)) && not (among ms u && among ms j)) e)
+
         pick : (a t : Bool) → (a && false) ≡ ((a && false) && t)
         pick true t = refl
         pick false t = refl
+
         far : (u j : ℕ) → ltb j N ≡ false → conflicts N R vs u j ≡ without (conflicts N R ws) ms u j
         far u j e = ap (λ b. ltb u N && (b && standsAt vs R u j)) e ∙ pick (ltb u N) (not (among ms u && among ms j)) ∙ sym (ap (λ b. (ltb u N && (b && standsAt ws R u j)) && not (among ms u && among ms j)) e)

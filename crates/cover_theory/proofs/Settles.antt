@@ -24,8 +24,8 @@ best-max : (sc : ℕ → ℕ) (k c b j : ℕ) → c ≤ j → j < c + k → sc j
 best-max sc zero c b j p q = absurd (omega arith)
 best-max sc (suc k) c b j p q = ⊎-elim
     (λ e. subst (λ z. sc z ≤ sc (firstBest sc (suc k) c b)) e
-      (cond-both (ltb (sc b) (sc c)) c b (λ z. sc c ≤ sc (firstBest sc k (suc c) z))
-        (λ f. best-least sc k (suc c) c) (λ f. omega (arith, ltb-false (sc b) (sc c) f, best-least sc k (suc c) b))))
+    (cond-both (ltb (sc b) (sc c)) c b (λ z. sc c ≤ sc (firstBest sc k (suc c) z))
+    (λ f. best-least sc k (suc c) c) (λ f. omega (arith, ltb-false (sc b) (sc c) f, best-least sc k (suc c) b))))
     (λ n. best-max sc k (suc c) (cond (ltb (sc b) (sc c)) c b) j (omega arith) (omega arith))
     (cases-eq c j)
 
@@ -74,9 +74,10 @@ module _ (N : ℕ) (r : Rel) (loose : (u : ℕ) → r u u ≡ true → ⊥) wher
       let x = missing (s .0) N 0 l in
       let sc = score N r (s .0) (s .1) in
       let top = best-max sc N 0 0 (x .0) (omega arith) (x .2) in
-      let some : sc (x .0) ≡ suc (count (shared r (s .1) (x .0)) N 0) = cond-false (s .0 (x .0)) 0 _ (x .3) in
-      (⊎-elim (λ e. absurd (let none : sc (chosen N r (s .0) (s .1)) ≡ 0 = cond-true (s .0 (chosen N r (s .0) (s .1))) 0 _ e in omega arith)) (λ e. e) (cases-bool (s .0 (chosen N r (s .0) (s .1)))),
-        best-in sc N 0 0 N (omega arith) (omega arith))
+      let some : sc (x .0) ≡ suc (count (shared r (s .1) (x .0)) N 0) = cond-false (s .0 (x .0)) 0 _ (x .3) in (
+        ⊎-elim (λ e. absurd (let none : sc (chosen N r (s .0) (s .1)) ≡ 0 = cond-true (s .0 (chosen N r (s .0) (s .1))) 0 _ e in omega arith)) (λ e. e) (cases-bool (s .0 (chosen N r (s .0) (s .1)))),
+        best-in sc N 0 0 N (omega arith) (omega arith),
+      )
 
   pub widen-settles : (k : ℕ) (s : Sides) → Sided r s → ((i : ℕ) → s .0 i ≡ true → i < N) → N ≤ k + count (s .0) N 0 → Settled N r (widen N r k s)
   widen-settles zero s h small l = full-settled s h (omega arith)
@@ -85,11 +86,11 @@ module _ (N : ℕ) (r : Rel) (loose : (u : ℕ) → r u u ≡ true → ⊥) wher
       cond-both (better (count (s .0) N 0) (count (s .1) N 0) (suc (count (s .0) N 0)) (count (shared r (s .1) c) N 0))
       (widen N r k (joinedBy N (s .0) c, shared r (s .1) c)) s (Settled N r)
       (λ e. ⊎-elim
-        (λ g. let o = chosen-out s g in
-          widen-settles k (joinedBy N (s .0) c, shared r (s .1) c) (sided-join N r s c h) (λ i q. ltb-true i N (and-parts (ltb i N) _ q .0))
-          (let more = count-fewer (joinedBy N (s .0) c) (s .0) N 0 c (λ i q. and-from (ltb i N) _ (lt-ltb i N (small i q)) (or-left (s .0 i) (eqb c i) q)) (omega arith) (omega (arith, o .1))
-             (and-from (ltb c N) _ (lt-ltb c N (o .1)) (or-right (s .0 c) (eqb c c) (eq-eqb c c refl))) (o .0) in omega arith))
-        (λ g. absurd (both-ways _ (full-settled s h g) e)) (cases-lt (count (s .0) N 0) N))
+      (λ g. let o = chosen-out s g in
+      widen-settles k (joinedBy N (s .0) c, shared r (s .1) c) (sided-join N r s c h) (λ i q. ltb-true i N (and-parts (ltb i N) _ q .0))
+      (let more = count-fewer (joinedBy N (s .0) c) (s .0) N 0 c (λ i q. and-from (ltb i N) _ (lt-ltb i N (small i q)) (or-left (s .0 i) (eqb c i) q)) (omega arith) (omega (arith, o .1))
+      (and-from (ltb c N) _ (lt-ltb c N (o .1)) (or-right (s .0 c) (eqb c c) (eq-eqb c c refl))) (o .0) in omega arith))
+      (λ g. absurd (both-ways _ (full-settled s h g) e)) (cases-lt (count (s .0) N 0) N))
       (λ e. e)
 
   pub grown-settles : Settled N r (grownSides N r)

@@ -39,11 +39,12 @@ module _ (ws vs us : List ℕ) (R u : ℕ) (P : ℕ → ℕ → Bool)
     (λ v j h g. ⊎-elim (λ e.
         subst (λ z. standsAt us R z j ≡ (standsAt ws R z j && not (P z j))) (sym e)
         (inside j g ∙ ap (λ z. bit z (j % 64) && not (P u j)) (later (u * R + j / 64) (omega arith))))
-      (λ ne.
+        (λ ne.
         let l : v < u = omega arith in
         ap (λ z. bit z (j % 64)) (before (v * R + j / 64) (omega (arith, mul-le (v + 1) R u R (omega arith) (omega arith), mul-comm (v + 1) R, mul-comm v R))) ∙ done v j l g)
-      (cases-eq v u)),
-    (λ k h. let m : u * R + R ≤ k = omega (arith, mul-comm (u + 1) R, mul-comm u R) in after k m ∙ later k (omega arith)))
+        (cases-eq v u)),
+    (λ k h. let m : u * R + R ≤ k = omega (arith, mul-comm (u + 1) R, mul-comm u R) in after k m ∙ later k (omega arith)),
+  )
 
 -- ---- widening
 
@@ -75,12 +76,13 @@ module _ (N R : ℕ) (ws : List ℕ) (fit : Fit N R ws) (a b : List ℕ) (na : N
         three : (l m r : Bool) → (l && (m && r)) ≡ ((l && m) && r)
         three true m r = refl
         three false m r = refl
+
         at : (j : ℕ) → held N b′ j ≡ shared (conflicts N R ws) (held N b) c j
         at j = ⊎-elim (λ h.
             let small = fit .small in
             ap (λ z. ltb j N && z) (both j (omega arith) ∙ ap (λ z. marked b j && z) (agree N R ws (fit .tidy) (fit .small) c j hc (omega arith)))
             ∙ three (ltb j N) (marked b j) (conflicts N R ws c j))
-          (λ h. ap (λ z. z && marked b′ j) (le-ltb j N h) ∙ sym (ap (λ z. (z && marked b j) && conflicts N R ws c j) (le-ltb j N h))) (cases-lt j N)
+            (λ h. ap (λ z. z && marked b′ j) (le-ltb j N h) ∙ sym (ap (λ z. (z && marked b j) && conflicts N R ws c j) (le-ltb j N h))) (cases-lt j N)
 
     pub meet-neat : Neat N R b′
     meet-neat j h g = both j g ∙ and-left (marked b j) (standsAt ws R c j) (nb j h g)

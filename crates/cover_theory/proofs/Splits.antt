@@ -52,7 +52,8 @@ nothing-yet N rel g = record {
   joined = λ P h. absurd h;
   everywhere = λ u w h. inr h;
   apart = tt;
-  beside = λ P h. absurd h }
+  beside = λ P h. absurd h;
+}
 
 -- ---- one more part
 
@@ -61,9 +62,10 @@ in-push P Q Ps h = ⊎-elim (λ i. inl i) (λ i. ⊎-elim (λ e. inr e) (λ z. a
 
 apart-push : (Ps : List (Part ℕ)) (P : Part ℕ) → ApartAt Ps → ((Q : Part ℕ) → In Q Ps → (u w : ℕ) → Joins Q u w → Joins P u w → ⊥) → ApartAt (also Ps P)
 apart-push [] P h f = ((λ Q q. absurd q), tt)
-apart-push (R ∷ Ps) P h f =
-    ((λ Q q u w j k. ⊎-elim (λ i. h .0 Q i u w j k) (λ e. f R (inl refl) u w j (subst (λ z. Joins z u w) (sym e) k)) (in-push P Q Ps q)),
-      apart-push Ps P (h .1) (λ Q q. f Q (inr q)))
+apart-push (R ∷ Ps) P h f = (
+  (λ Q q u w j k. ⊎-elim (λ i. h .0 Q i u w j k) (λ e. f R (inl refl) u w j (subst (λ z. Joins z u w) (sym e) k)) (in-push P Q Ps q)),
+  apart-push Ps P (h .1) (λ Q q. f Q (inr q)),
+)
 
 module _ (N : ℕ) (rel r : Rel) (Ps : List (Part ℕ)) (old : Split N rel (r, Ps)) (P : Part ℕ) (r′ : Rel)
     (sound : SoundAt N rel P)
@@ -78,21 +80,23 @@ module _ (N : ℕ) (rel r : Rel) (Ps : List (Part ℕ)) (old : Split N rel (r, P
     sound = λ Q q. ⊎-elim (λ i. old .sound Q i) (λ e. subst (SoundAt N rel) e sound) (in-push P Q Ps q);
     joined = λ Q q u w j. ⊎-elim (λ i. old .joined Q i u w j) (λ e. old .within u w (live u w (subst (λ z. Joins z u w) (sym e) j))) (in-push P Q Ps q);
     everywhere = λ u w h. ⊎-elim
-      (λ x. inl (x .0, in-left (x .0) Ps (P ∷ []) (x .1), x .2))
-      (λ s. ⊎-elim (λ j. inl (P, in-right P Ps (P ∷ []) (inl refl), j)) (λ s′. inr s′) (kept u w s)) (old .everywhere u w h);
+        (λ x. inl (x .0, in-left (x .0) Ps (P ∷ []) (x .1), x .2))
+        (λ s. ⊎-elim (λ j. inl (P, in-right P Ps (P ∷ []) (inl refl), j)) (λ s′. inr s′) (kept u w s)) (old .everywhere u w h);
     apart = apart-push Ps P (old .apart) (λ Q q u w j k. old .beside Q q u w j (live u w k));
-    beside = λ Q q u w j s. ⊎-elim (λ i. old .beside Q i u w j (less u w s .0)) (λ e. less u w s .1 (subst (λ z. Joins z u w) (sym e) j)) (in-push P Q Ps q) }
+    beside = λ Q q u w j s. ⊎-elim (λ i. old .beside Q i u w j (less u w s .0)) (λ e. less u w s .1 (subst (λ z. Joins z u w) (sym e) j)) (in-push P Q Ps q);
+  }
 
 -- ---- cliques
 
 pairwise-push : (r : Rel) (ms : List ℕ) (c : ℕ) → ((u w : ℕ) → r u w ≡ true → r w u ≡ true) → Pairwise r ms → clashes r ms c ≡ true → Pairwise r (ms ++ c ∷ [])
 pairwise-push r [] c back h k = ((λ d i. absurd i), tt)
 pairwise-push r (m ∷ ms) c back h k =
-    let p = and-parts (r m c) (clashes r ms c) k in
-    ((λ d i. ⊎-elim (λ j. h .0 d j)
-        (⊎-elim (λ e. (subst (λ z. r m z ≡ true) e (p .0), subst (λ z. r z m ≡ true) e (back m c (p .0)))) (λ z. absurd z))
-        (in-cases d ms (c ∷ []) i)),
-      pairwise-push r ms c back (h .1) (p .1))
+    let p = and-parts (r m c) (clashes r ms c) k in (
+      (λ d i. ⊎-elim (λ j. h .0 d j)
+          (⊎-elim (λ e. (subst (λ z. r m z ≡ true) e (p .0), subst (λ z. r z m ≡ true) e (back m c (p .0)))) (λ z. absurd z))
+          (in-cases d ms (c ∷ []) i)),
+      pairwise-push r ms c back (h .1) (p .1),
+    )
 
 -- what a growing clique keeps
 abbrev Growing : Rel → List ℕ → Type 0
@@ -103,9 +107,9 @@ grow-keeps r back ms zero c h = h
 grow-keeps r back ms (suc k) c h =
     grow-keeps r back (cond (joins r ms c) (ms ++ c ∷ []) ms) k (suc c)
     (cond-both (joins r ms c) (ms ++ c ∷ []) ms (Growing r)
-      (λ e. let p = and-parts (clashes r ms c) (ltb (length ms) 256) e in let l = ltb-true (length ms) 256 (p .1) in
-        (pairwise-push r ms c back (h .0) (p .0), omega (arith, length-append ms (c ∷ []))))
-      (λ e. h))
+    (λ e. let p = and-parts (clashes r ms c) (ltb (length ms) 256) e in let l = ltb-true (length ms) 256 (p .1) in
+    (pairwise-push r ms c back (h .0) (p .0), omega (arith, length-append ms (c ∷ []))))
+    (λ e. h))
 
 pairwise-in : (r : Rel) (ms : List ℕ) (u w : ℕ) → Pairwise r ms → In u ms → In w ms → u ≢ w → r u w ≡ true
 pairwise-in r [] u w h i j ne = absurd i
@@ -165,12 +169,12 @@ module _ (N : ℕ) (rel : Rel) (g : Given N rel) where
         ((λ c i. let d = has-conflict r ms c (omega arith) (h .0) i in g .bound c (d .0) (old .within c (d .0) (d .1)) .0), pairwise-mono r rel (old .within) ms (h .0), six, h .1)
         (λ u w j. pairwise-in r ms u w (h .0) (j .0) (j .1) (j .2))
         (λ u w s. let p = and-parts (r u w) (not (among ms u && among ms w)) s in
-          (p .0, λ j. both-ways (among ms u && among ms w) (not-true _ (p .1)) (and-from (among ms u) (among ms w) (in-among ms u (j .0)) (in-among ms w (j .1)))))
+        (p .0, λ j. both-ways (among ms u && among ms w) (not-true _ (p .1)) (and-from (among ms u) (among ms w) (in-among ms u (j .0)) (in-among ms w (j .1)))))
         (λ u w s. ⊎-elim
-          (λ e. let p = and-parts (among ms u) (among ms w) e in inl (among-in ms u (p .0), among-in ms w (p .1), λ f. loose u (subst (λ z. r u z ≡ true) (sym f) s)))
-          (λ e. inr (and-from (r u w) _ s (not-from-false _ e))) (cases-bool (among ms u && among ms w)))
+        (λ e. let p = and-parts (among ms u) (among ms w) e in inl (among-in ms u (p .0), among-in ms w (p .1), λ f. loose u (subst (λ z. r u z ≡ true) (sym f) s)))
+        (λ e. inr (and-from (r u w) _ s (not-from-false _ e))) (cases-bool (among ms u && among ms w)))
         (λ u w s. let p = and-parts (r u w) (not (among ms u && among ms w)) s in
-          and-from (r w u) _ (old .back u w (p .0)) (ap not (swap (among ms w) (among ms u)) ∙ p .1))
+        and-from (r w u) _ (old .back u w (p .0)) (ap not (swap (among ms w) (among ms u)) ∙ p .1))
       where
         swap : (a b : Bool) → (a && b) ≡ (b && a)
         swap true true = refl
@@ -181,26 +185,31 @@ module _ (N : ℕ) (rel : Rel) (g : Given N rel) where
     -- the sides become a part
     sides-added : (s : Sides) → Sided r s → gains N s ≡ true → Split N rel (withoutSides r s, also Ps (biclique (those (s .0) N 0) (those (s .1) N 0)))
     sides-added s h gain =
-        added N rel r Ps old (biclique (those (s .0) N 0) (those (s .1) N 0)) (withoutSides r s)
-        ((λ c i. omega (arith, those-in (s .0) N 0 c i .1)), (λ c i. omega (arith, those-in (s .1) N 0 c i .1)), those-once (s .0) N 0, those-once (s .1) N 0,
+        added N rel r Ps old (biclique (those (s .0) N 0) (those (s .1) N 0)) (withoutSides r s) (
+          (λ c i. omega (arith, those-in (s .0) N 0 c i .1)),
+          (λ c i. omega (arith, those-in (s .1) N 0 c i .1)),
+          those-once (s .0) N 0,
+          those-once (s .1) N 0,
           (λ c i j. loose c (h c c (those-in (s .0) N 0 c i .2) (those-in (s .1) N 0 c j .2))),
           subst (λ z. z + length (those (s .1) N 0) < z * length (those (s .1) N 0)) (sym (length-those (s .0) N 0))
-          (subst (λ z. count (s .0) N 0 + z < count (s .0) N 0 * z) (sym (length-those (s .1) N 0)) (ltb-true _ _ gain)))
+              (subst (λ z. count (s .0) N 0 + z < count (s .0) N 0 * z) (sym (length-those (s .1) N 0)) (ltb-true _ _ gain)),
+        )
         (λ u w j. ⊎-elim (λ i. h u w (those-in (s .0) N 0 u (i .0) .2) (those-in (s .1) N 0 w (i .1) .2))
-          (λ i. old .back w u (h w u (those-in (s .0) N 0 w (i .1) .2) (those-in (s .1) N 0 u (i .0) .2))) j)
+        (λ i. old .back w u (h w u (those-in (s .0) N 0 w (i .1) .2) (those-in (s .1) N 0 u (i .0) .2))) j)
         (λ u w k. let p = and-parts (r u w) (not (between s u w)) k in (p .0, λ j. both-ways (between s u w) (not-true _ (p .1)) (joins-between u w j)))
         (λ u w k. let l = g .bound u w (old .within u w k) in ⊎-elim
-          (λ e. inl (⊎-elim
-            (λ f. let p = and-parts (s .0 u) (s .1 w) f in inl (in-those (s .0) N 0 u (omega arith, omega (arith, l .0), p .0), in-those (s .1) N 0 w (omega arith, omega (arith, l .1), p .1)))
-            (λ f. let p = and-parts (s .1 u) (s .0 w) f in inr (in-those (s .1) N 0 u (omega arith, omega (arith, l .0), p .0), in-those (s .0) N 0 w (omega arith, omega (arith, l .1), p .1)))
-            (or-cases (s .0 u && s .1 w) (s .1 u && s .0 w) e)))
-          (λ e. inr (and-from (r u w) _ k (not-from-false _ e))) (cases-bool (between s u w)))
+        (λ e. inl (⊎-elim
+        (λ f. let p = and-parts (s .0 u) (s .1 w) f in inl (in-those (s .0) N 0 u (omega arith, omega (arith, l .0), p .0), in-those (s .1) N 0 w (omega arith, omega (arith, l .1), p .1)))
+        (λ f. let p = and-parts (s .1 u) (s .0 w) f in inr (in-those (s .1) N 0 u (omega arith, omega (arith, l .0), p .0), in-those (s .0) N 0 w (omega arith, omega (arith, l .1), p .1)))
+        (or-cases (s .0 u && s .1 w) (s .1 u && s .0 w) e)))
+        (λ e. inr (and-from (r u w) _ k (not-from-false _ e))) (cases-bool (between s u w)))
         (λ u w k. let p = and-parts (r u w) (not (between s u w)) k in and-from (r w u) _ (old .back u w (p .0)) (ap not (turn (s .0 w) (s .1 u) (s .1 w) (s .0 u)) ∙ p .1))
       where
         joins-between : (u w : ℕ) → Joins (biclique (those (s .0) N 0) (those (s .1) N 0)) u w → between s u w ≡ true
         joins-between u w j = ⊎-elim
-          (λ i. or-left _ _ (and-from (s .0 u) (s .1 w) (those-in (s .0) N 0 u (i .0) .2) (those-in (s .1) N 0 w (i .1) .2)))
-          (λ i. or-right _ _ (and-from (s .1 u) (s .0 w) (those-in (s .1) N 0 u (i .0) .2) (those-in (s .0) N 0 w (i .1) .2))) j
+            (λ i. or-left _ _ (and-from (s .0 u) (s .1 w) (those-in (s .0) N 0 u (i .0) .2) (those-in (s .1) N 0 w (i .1) .2)))
+            (λ i. or-right _ _ (and-from (s .1 u) (s .0 w) (those-in (s .1) N 0 u (i .0) .2) (those-in (s .0) N 0 w (i .1) .2))) j
+
         turn : (a b c d : Bool) → ((a && b) || (c && d)) ≡ ((d && c) || (b && a))
         turn true true true true = refl
         turn true true true false = refl
@@ -224,11 +233,11 @@ module _ (N : ℕ) (rel : Rel) (g : Given N rel) where
   visit-splits s u w h =
       cond-both (s .0 u w) (taken also (s .0) (grown N (s .0) u w) (s .1)) s (Split N rel)
       (λ e. cond-both (leb 6 (length (grown N (s .0) u w))) (without (s .0) (grown N (s .0) u w), also (s .1) (clique (grown N (s .0) u w))) (s .0, s .1) (Split N rel)
-        (λ f. clique-added (s .0) (s .1) h (grown N (s .0) u w)
-          (grow-keeps (s .0) (h .back) (u ∷ w ∷ []) (N - suc w) (suc w)
-            (((λ c i. ⊎-elim (λ q. (subst (λ z. s .0 u z ≡ true) q e, subst (λ z. s .0 z u ≡ true) q (h .back u w e))) (λ z. absurd z) i), ((λ c i. absurd i), tt)), omega arith))
-          (leb-true 6 (length (grown N (s .0) u w)) f))
-        (λ f. h))
+      (λ f. clique-added (s .0) (s .1) h (grown N (s .0) u w)
+      (grow-keeps (s .0) (h .back) (u ∷ w ∷ []) (N - suc w) (suc w)
+      (((λ c i. ⊎-elim (λ q. (subst (λ z. s .0 u z ≡ true) q e, subst (λ z. s .0 z u ≡ true) q (h .back u w e))) (λ z. absurd z) i), ((λ c i. absurd i), tt)), omega arith))
+      (leb-true 6 (length (grown N (s .0) u w)) f))
+      (λ f. h))
       (λ e. h)
 
   pub visits-splits : (s : Rel × List (Part ℕ)) (u k w : ℕ) → Split N rel s → Split N rel (visits also N s u k w)
@@ -245,7 +254,7 @@ module _ (N : ℕ) (rel : Rel) (g : Given N rel) where
       let p = grownSides N (s .0) in
       cond-both (gains N p) (bicliques also N k (withoutSides (s .0) p, also (s .1) (biclique (those (p .0) N 0) (those (p .1) N 0)))) s (Split N rel)
       (λ e. bicliques-split k (withoutSides (s .0) p, also (s .1) (biclique (those (p .0) N 0) (those (p .1) N 0)))
-        (sides-added (s .0) (s .1) h p (sided-grown N (s .0)) e))
+      (sides-added (s .0) (s .1) h p (sided-grown N (s .0)) e))
       (λ e. h)
 
   pub covering-splits : Split N rel (covering N rel)

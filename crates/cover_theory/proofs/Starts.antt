@@ -39,13 +39,13 @@ module _ (mask ws : List ℕ) (R u w f y : ℕ) (h : f / 64 < R) (room : R ≤ l
   pub started : (j : ℕ) → 64 * (f / 64) ≤ j → j < 64 * R → marked (set mask (f / 64) y) j ≡ (leb f j && (standsAt ws R u j && standsAt ws R w j))
   started j p q =
       ⊎-elim (λ e.
-        let same : getD (set mask (f / 64) y) (j / 64) 0 ≡ y = subst (λ z. getD (set mask (f / 64) y) z 0 ≡ y) (sym e) (getD-set-same mask (f / 64) y 0 (omega arith)) in
-        ap (λ z. bit z (j % 64)) same ∙ y-is (j % 64) ∙ ap (λ b. b && bit (getD mask (f / 64) 0) (j % 64)) (level f j e)
-        ∙ ap (λ z. leb f j && bit (getD mask z 0) (j % 64)) (sym e) ∙ ap (λ b. leb f j && b) (both j p q))
+      let same : getD (set mask (f / 64) y) (j / 64) 0 ≡ y = subst (λ z. getD (set mask (f / 64) y) z 0 ≡ y) (sym e) (getD-set-same mask (f / 64) y 0 (omega arith)) in
+      ap (λ z. bit z (j % 64)) same ∙ y-is (j % 64) ∙ ap (λ b. b && bit (getD mask (f / 64) 0) (j % 64)) (level f j e)
+      ∙ ap (λ z. leb f j && bit (getD mask z 0) (j % 64)) (sym e) ∙ ap (λ b. leb f j && b) (both j p q))
       (λ ne.
-        let ne′ : j / 64 ≢ f / 64 = ne in
-        ap (λ z. bit z (j % 64)) (getD-set-other mask (f / 64) (j / 64) y 0 ne′) ∙ both j p q
-        ∙ ap (λ b. b && (standsAt ws R u j && standsAt ws R w j)) (sym (le-leb f j (omega arith))))
+      let ne′ : j / 64 ≢ f / 64 = ne in
+      ap (λ z. bit z (j % 64)) (getD-set-other mask (f / 64) (j / 64) y 0 ne′) ∙ both j p q
+      ∙ ap (λ b. b && (standsAt ws R u j && standsAt ws R w j)) (sym (le-leb f j (omega arith))))
       (cases-eq (j / 64) (f / 64))
 
 and-true : (a : Bool) → a ≡ (a && true)

@@ -49,12 +49,15 @@ module _ (N R : ℕ) (ws : List ℕ) (tidy : Tidy N R ws) (loose : Loose N R ws)
     again c mask′ full room low met =
         let len : length (take k xs) ≡ k = length-take-le k xs (omega arith) in
         let lt : c < N = c-lt N R ws tidy loose small (take k xs) mask from (inv .3) (inv .4) c low in
-        subst (Growing N R ws u w (k + 1) (c + 1) mask′) (sym (take-more-set xs k c room))
-        (omega arith, omega (arith, inv .1), omega arith,
+        subst (Growing N R ws u w (k + 1) (c + 1) mask′) (sym (take-more-set xs k c room)) (
+          omega arith,
+          omega (arith, inv .1),
+          omega arith,
           ends-on N R ws tidy loose small (take k xs) mask from (inv .3) (inv .4) c low,
           masks-on N R ws tidy loose small (take k xs) mask from (inv .3) (inv .4) c low mask′ (λ j p q. mark-and mask′ _ _ j (met (j / 64) (omega arith) (omega arith))),
           sym (go-on N R ws tidy loose small (take k xs) mask from (inv .3) (inv .4) c low (omega arith)) ∙ inv .5,
-          places-push N c (take k xs) (inv .6) lt)
+          places-push N c (take k xs) (inv .6) lt,
+        )
 
     pub in-range : (c : ℕ) → Lowest mask (from / 64) R c → c < N
     in-range c low = c-lt N R ws tidy loose small (take k xs) mask from (inv .3) (inv .4) c low

@@ -30,8 +30,8 @@ module _ (N R : ℕ) (ws : List ℕ) (xs : List ℤ) (u w at : ℕ) (ms : List �
   pub too-short : (k : ℕ) → at ≤ length xs → length xs - at < k + 1 → length ms ≡ k → length xs < length (visit told N (conflicts N R ws, take at xs) u w .1)
   too-short k h short len =
       let e : length (visit told N (conflicts N R ws, take at xs) u w .1) ≡ at + suc (length ms) =
-        ap (λ (s : Flat). length (s .1)) visit-big ∙ length-append (take at xs) (listed (clique ms))
-        ∙ ap₂ (λ a b. a + suc b) (length-take-le at xs h) (length-map ms literal) in
+      ap (λ (s : Flat). length (s .1)) visit-big ∙ length-append (take at xs) (listed (clique ms))
+      ∙ ap₂ (λ a b. a + suc b) (length-take-le at xs h) (length-map ms literal) in
       omega arith
 
   module _ (vs : List ℕ) (ys : List ℤ) (k : ℕ) (len : length ms ≡ k) (at-in : at + k + 1 ≤ length xs) (same : length vs ≡ length ws)
@@ -45,7 +45,8 @@ module _ (N R : ℕ) (ws : List ℕ) (xs : List ℤ) (u w at : ℕ) (ms : List �
       loose = λ a p. let small = fit .small in gone a a p (omega arith) ∙ and-left (standsAt ws R a a) _ (fit .loose a p);
       small = fit .small;
       few = fit .few;
-      room = omega (arith, fit .room) }
+      room = omega (arith, fit .room);
+    }
 
     front : length (take at xs ++ listed (clique ms)) ≡ at + k + 1
     front =
@@ -65,7 +66,8 @@ module _ (N R : ℕ) (ws : List ℕ) (xs : List ℤ) (u w at : ℕ) (ms : List �
       state = (λ i. (left i, front-is i)) ∙ sym visit-big;
       tail = ap (drop (at + k + 1)) regrouped ∙ drop-at (take at xs ++ listed (clique ms)) (drop (at + k + 1) xs) (at + k + 1) front;
       low = omega arith;
-      high = at-in }
+      high = at-in;
+    }
 
 -- ---- a row
 
@@ -103,7 +105,7 @@ visit-longer : (N : ℕ) (s : Flat) (u w : ℕ) → length (s .1) ≤ length (vi
 visit-longer N s u w =
     longer-cond (s .0 u w) (taken told (s .0) (grown N (s .0) u w) (s .1)) s (length (s .1))
     (longer-cond (leb 6 (length (grown N (s .0) u w))) (without (s .0) (grown N (s .0) u w), told (s .1) (clique (grown N (s .0) u w))) (s .0, s .1) (length (s .1))
-      (omega (arith, length-append (s .1) (listed (clique (grown N (s .0) u w))))) (omega arith))
+    (omega (arith, length-append (s .1) (listed (clique (grown N (s .0) u w))))) (omega arith))
     (omega arith)
 
 visits-longer : (N : ℕ) (s : Flat) (u k w : ℕ) → length (s .1) ≤ length (visits told N s u k w .1)
@@ -139,7 +141,8 @@ went-on N R ws vs us xs ys zs at to end s t len p q = record {
   state = q .state;
   tail = q .tail ∙ drops to end ys xs (q .low) (p .tail);
   low = omega (arith, p .low, q .low);
-  high = omega (arith, q .high) }
+  high = omega (arith, q .high);
+}
   where
     drops : (to end : ℕ) (ys xs : List ℤ) → to ≤ end → drop to ys ≡ drop to xs → drop end ys ≡ drop end xs
     drops to end ys xs h e =

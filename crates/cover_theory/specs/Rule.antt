@@ -194,5 +194,6 @@ ofLiterals (biclique xs ys) = biclique (map literal xs) (map literal ys)
 -- THE COVER of the conflicts `rel` of n variables: 2n literals
 abbrev pub coverOf : ℕ → Rel → Cover
 coverOf n rel = record {
-    parts = map ofLiterals (covering (2 * n) rel .1);
-    remaining = pairsFrom (2 * n) (covering (2 * n) rel .0) (2 * n) 0 }
+  parts = map ofLiterals (covering (2 * n) rel .1);
+  remaining = pairsFrom (2 * n) (covering (2 * n) rel .0) (2 * n) 0;
+}

@@ -16,7 +16,8 @@ cover-words-requires c κs =
     let e : netOf (net .matrix) ≡ netIn (c .variables .result) (c .words .result .now) = λ i. record { variables = sym (c .variables .ensures) i; words = sym (c .words .ensures) i } in
     record {
       size = (subst (λ (X : Net). X .variables ≤ mostVariables) e (net .few), subst (λ (X : Net). wordsNeeded (X .variables) ≤ length (X .words)) e (net .room));
-      network = (subst Mutual e (net .mutual), (subst Apart e (net .apart), subst Trimmed e (net .trimmed))) }
+      network = (subst Mutual e (net .mutual), (subst Apart e (net .apart), subst Trimmed e (net .trimmed)));
+    }
 
 pub returns : need.returns
 returns c =
@@ -28,4 +29,5 @@ returns c =
       list = c .cover-words .ensures .list ∙ ap (λ (X : Net). listAfter X (length (c .args .work .now)) (c .args .list .now)) e;
       partition = net-partition (net .matrix .variables) (net .matrix .words .now) (net .mutual) (net .apart);
       ended = (covering-ends (2 * net .matrix .variables) (conflictsOf (netOf (net .matrix))), grown-settles);
-      alone = λ words h. net-alone (net .matrix .variables) (net .matrix .words .now) words h }
+      alone = λ words h. net-alone (net .matrix .variables) (net .matrix .words .now) words h;
+    }

@@ -27,11 +27,14 @@ same-counts a b c d i = record { cliques = a i; bicliques = b i; remaining = c i
 pub find-parts-requires : need.find-parts-requires
 find-parts-requires c κs =
     let e : c .row-words-rows .result ≡ rowWords (c .args .n) = c .row-words-rows .ensures in
-    record { fit = (
-      subst (λ r. Fit (2 * c .args .n) r (c .copy-words .last .to)) (sym e)
-      (net-fit (c .args .n) (c .args .words .now) (c .pre .network .0) (c .pre .network .1 .0) (c .copy-words .last .to) (c .pre .network .1 .1) (c .pre .size .0) (omega arith)
-        (λ i h. c .copy-words .ensures .copied i (omega arith))),
-      omega arith) }
+    record {
+      fit = (
+        subst (λ r. Fit (2 * c .args .n) r (c .copy-words .last .to)) (sym e)
+            (net-fit (c .args .n) (c .args .words .now) (c .pre .network .0) (c .pre .network .1 .0) (c .copy-words .last .to) (c .pre .network .1 .1) (c .pre .size .0) (omega arith)
+            (λ i h. c .copy-words .ensures .copied i (omega arith))),
+        omega arith,
+      );
+    }
 
 pub returns-in-rest : need.returns-in-rest
 returns-in-rest c =
@@ -39,15 +42,16 @@ returns-in-rest c =
     let net = netIn (c .args .n) (c .args .words .now) in
     let enough : wordsNeeded (c .args .n) ≤ length (c .args .work .now) = omega arith in
     let short : length (c .args .list .now) < length (numbers (coverOf (c .args .n) (conflictsIn (c .args .n) (c .args .words .now)) .parts)) =
-      too-short (c .args .n) (c .args .words .now) (c .args .work .now) (c .copy-words .last .to) (λ i h. c .copy-words .ensures .copied i (omega arith)) (length (c .args .list .now))
-      (subst (λ r. length (c .args .list .now) < length (ruled told (2 * c .args .n) (conflicts (2 * c .args .n) r (c .copy-words .last .to), []) .1)) e (c .in-rest .ensures tt)) in
+    too-short (c .args .n) (c .args .words .now) (c .args .work .now) (c .copy-words .last .to) (λ i h. c .copy-words .ensures .copied i (omega arith)) (length (c .args .list .now))
+    (subst (λ r. length (c .args .list .now) < length (ruled told (2 * c .args .n) (conflicts (2 * c .args .n) r (c .copy-words .last .to), []) .1)) e (c .in-rest .ensures tt)) in
     record {
       answer = ap Err (c .refused .ensures) ∙ ends-list net (length (c .args .work .now)) (length (c .args .list .now)) _ _ _ enough short;
       words = laid-zero (c .args .n) (c .args .work .now) (c .zero-words .last .words) enough (omega arith) (λ k h. c .zero-words .ensures .zeros k (omega arith))
-        (λ i h. getD-past (c .zero-words .last .words) i 0 (omega arith) ∙ sym (getD-past (c .args .work .now) i 0 (omega arith)))
-        ∙ ends-list net (length (c .args .work .now)) (length (c .args .list .now)) _ _ _ enough short;
+          (λ i h. getD-past (c .zero-words .last .words) i 0 (omega arith) ∙ sym (getD-past (c .args .work .now) i 0 (omega arith)))
+          ∙ ends-list net (length (c .args .work .now)) (length (c .args .list .now)) _ _ _ enough short;
       list = c .zero-list .ensures ∙ ap (λ k. replicate k (pos 0)) (let z : length (c .find-parts .last .list) - 0 ≡ length (c .args .list .now) = omega arith in z)
-        ∙ ends-list net (length (c .args .work .now)) (length (c .args .list .now)) _ _ _ enough short }
+          ∙ ends-list net (length (c .args .work .now)) (length (c .args .list .now)) _ _ _ enough short;
+    }
 
 pub returns : need.returns
 returns c =
@@ -55,21 +59,22 @@ returns c =
     let net = netIn (c .args .n) (c .args .words .now) in
     let enough : wordsNeeded (c .args .n) ≤ length (c .args .work .now) = omega arith in
     let W : Went (2 * c .args .n) (rowWords (c .args .n)) (c .copy-words .last .to) (c .find-parts .last .words) (c .args .list .now) (c .find-parts .last .list) 0 (c .in-Some .used) (ruled told (2 * c .args .n) (conflicts (2 * c .args .n) (rowWords (c .args .n)) (c .copy-words .last .to), [])) =
-      subst (λ r. Went (2 * c .args .n) r (c .copy-words .last .to) (c .find-parts .last .words) (c .args .list .now) (c .find-parts .last .list) 0 (c .in-Some .used) (ruled told (2 * c .args .n) (conflicts (2 * c .args .n) r (c .copy-words .last .to), []))) e (c .in-Some .ensures tt) in
+    subst (λ r. Went (2 * c .args .n) r (c .copy-words .last .to) (c .find-parts .last .words) (c .args .list .now) (c .find-parts .last .list) 0 (c .in-Some .used) (ruled told (2 * c .args .n) (conflicts (2 * c .args .n) r (c .copy-words .last .to), []))) e (c .in-Some .ensures tt) in
     let copied : (i : ℕ) → i < wordsNeeded (c .args .n) → getD (c .copy-words .last .to) i 0 ≡ getD (c .args .words .now) i 0 = λ i h. c .copy-words .ensures .copied i (omega arith) in
     let len : length (c .find-parts .last .list) ≡ length (c .args .list .now) = omega arith in
     let fits-list = long-enough (c .args .n) (c .args .words .now) (c .args .work .now) (c .copy-words .last .to) copied (c .find-parts .last .words) (c .args .list .now) (c .find-parts .last .list) (c .in-Some .used) len W in
     let used = used-is (c .args .n) (c .args .words .now) (c .args .work .now) (c .copy-words .last .to) copied (c .find-parts .last .words) (c .args .list .now) (c .find-parts .last .list) (c .in-Some .used) len W in
     let held : c .zero-list-2 .last .list ≡ listHolding (coverOfNet net .parts) (length (c .args .list .now)) =
-      c .zero-list-2 .ensures ∙ list-is (c .args .n) (c .args .words .now) (c .args .work .now) (c .copy-words .last .to) copied (c .find-parts .last .words) (c .args .list .now) (c .find-parts .last .list) (c .in-Some .used) len W in
+    c .zero-list-2 .ensures ∙ list-is (c .args .n) (c .args .words .now) (c .args .work .now) (c .copy-words .last .to) copied (c .find-parts .last .words) (c .args .list .now) (c .find-parts .last .list) (c .in-Some .used) len W in
     let counts = c .count-parts-cliques .ensures (coverOfNet net .parts) (length (c .args .list .now) - length (numbers (coverOfNet net .parts)))
-      (sized (c .args .n) (coverOfNet net .parts) (net-partition (c .args .n) (c .args .words .now) (c .pre .network .0) (c .pre .network .1 .0) .sound)) held in
+    (sized (c .args .n) (coverOfNet net .parts) (net-partition (c .args .n) (c .args .words .now) (c .pre .network .0) (c .pre .network .1 .0) .sound)) held in
     let remaining : c .count-remaining-remaining .result ≡ length (coverOfNet net .remaining) =
-      c .count-remaining-remaining .ensures .value ∙ ap (λ r. length (pairsFrom (2 * c .args .n) (conflicts (2 * c .args .n) r (c .find-parts .last .words)) (2 * c .args .n) 0)) e
-      ∙ remaining-is (c .args .n) (c .args .words .now) (c .args .work .now) (c .copy-words .last .to) copied (c .find-parts .last .words) (c .args .list .now) (c .find-parts .last .list) (c .in-Some .used) len W in
+    c .count-remaining-remaining .ensures .value ∙ ap (λ r. length (pairsFrom (2 * c .args .n) (conflicts (2 * c .args .n) r (c .find-parts .last .words)) (2 * c .args .n) 0)) e
+    ∙ remaining-is (c .args .n) (c .args .words .now) (c .args .work .now) (c .copy-words .last .to) copied (c .find-parts .last .words) (c .args .list .now) (c .find-parts .last .list) (c .in-Some .used) len W in
     record {
       answer = ap Ok (same-counts (counts .0) (counts .1) remaining used) ∙ ends-covered net (length (c .args .work .now)) (length (c .args .list .now)) _ _ _ enough fits-list;
       words = words-are (c .args .n) (c .args .words .now) (c .args .work .now) (c .copy-words .last .to) copied (c .find-parts .last .words) (c .args .list .now) (c .find-parts .last .list) (c .in-Some .used) len W
-        enough (omega arith) (c .count-remaining-remaining .ensures .words) (λ i h. getD-past (c .copy-words .last .to) i 0 (omega arith) ∙ sym (getD-past (c .args .work .now) i 0 (omega arith)))
-        ∙ ends-covered net (length (c .args .work .now)) (length (c .args .list .now)) _ _ _ enough fits-list;
-      list = held ∙ ends-covered net (length (c .args .work .now)) (length (c .args .list .now)) _ _ _ enough fits-list }
+          enough (omega arith) (c .count-remaining-remaining .ensures .words) (λ i h. getD-past (c .copy-words .last .to) i 0 (omega arith) ∙ sym (getD-past (c .args .work .now) i 0 (omega arith)))
+          ∙ ends-covered net (length (c .args .work .now)) (length (c .args .list .now)) _ _ _ enough fits-list;
+      list = held ∙ ends-covered net (length (c .args .work .now)) (length (c .args .list .now)) _ _ _ enough fits-list;
+    }

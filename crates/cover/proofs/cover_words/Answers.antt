@@ -18,4 +18,5 @@ returns c =
     record {
       answer = c .cover-exactly .ensures .answer ∙ same-ending net (length (take (2 * c .args .n * c .row-words .result - 0) (c .args .work .now))) (length (c .args .work .now)) (length (c .args .list .now)) _ _ _ _ len enough;
       words = whole-words net (c .args .work .now) (take (2 * c .args .n * c .row-words .result - 0) (c .args .work .now)) (c .cover-exactly .last .work) (length (c .args .list .now)) (2 * c .args .n * c .row-words .result - 0) k enough refl (c .cover-exactly .ensures .words);
-      list = c .cover-exactly .ensures .list ∙ same-ending net (length (take (2 * c .args .n * c .row-words .result - 0) (c .args .work .now))) (length (c .args .work .now)) (length (c .args .list .now)) _ _ _ _ len enough }
+      list = c .cover-exactly .ensures .list ∙ same-ending net (length (take (2 * c .args .n * c .row-words .result - 0) (c .args .work .now))) (length (c .args .work .now)) (length (c .args .list .now)) _ _ _ _ len enough;
+    }

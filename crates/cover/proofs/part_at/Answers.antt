@@ -5,4 +5,5 @@ use Rattle.cover.proofs.part_at.Needs as need
 pub returns : need.returns
 returns c = record {
   value = c .read-part .ensures;
-  reads = λ P rest s e. let h = part-here (c .args .list .now) (c .args .at) P rest s e in (c .read-part .ensures ∙ h .0, h .1) }
+  reads = λ P rest s e. let h = part-here (c .args .list .now) (c .args .at) P rest s e in (c .read-part .ensures ∙ h .0, h .1);
+}

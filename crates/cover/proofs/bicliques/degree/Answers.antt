@@ -16,18 +16,20 @@ index-words-base c = omega (arith, row-in (c .args .count) (c .args .rows) (c .a
 
 pub loop-i-again : need.loop-i-again
 loop-i-again c =
-    let f : Fits w64 (getD (c .args .words .now) (c .args .u * c .args .rows + c .loop-i .i) 0) = c .typed .words (c .args .u * c .args .rows + c .loop-i .i) in
-    (omega (arith, c .loop-i .inv .0, c .tally-n .ensures .bound),
+    let f : Fits w64 (getD (c .args .words .now) (c .args .u * c .args .rows + c .loop-i .i) 0) = c .typed .words (c .args .u * c .args .rows + c .loop-i .i) in (
+      omega (arith, c .loop-i .inv .0, c .tally-n .ensures .bound),
       ap₂ _+_ (c .loop-i .inv .1) (c .tally-n .ensures .value)
-      ∙ sym (word-more (standsAt (c .args .words .now) (c .args .rows) (c .args .u)) (c .loop-i .i)
-        (getD (c .args .words .now) (c .args .u * c .args .rows + c .loop-i .i) 0)
-        (omega arith)
-        (degree-word (c .args .words .now) (c .args .rows) (c .args .u) (c .loop-i .i))))
+          ∙ sym (word-more (standsAt (c .args .words .now) (c .args .rows) (c .args .u)) (c .loop-i .i)
+          (getD (c .args .words .now) (c .args .u * c .args .rows + c .loop-i .i) 0)
+          (omega arith)
+          (degree-word (c .args .words .now) (c .args .rows) (c .args .u) (c .loop-i .i))),
+    )
 
 pub returns : need.returns
 returns c =
     let e : c .loop-i .i ≡ c .args .rows = omega arith in
     record {
       value = c .loop-i .inv .1 ∙ ap (λ z. count (standsAt (c .args .words .now) (c .args .rows) (c .args .u)) (64 * z) 0) e
-        ∙ degree-is (c .args .count) (c .args .rows) (c .args .words .now) (c .args .u) (c .pre .0) (c .pre .1);
-      bound = omega (arith, c .loop-i .inv .0, c .pre .0 .few) }
+          ∙ degree-is (c .args .count) (c .args .rows) (c .args .words .now) (c .args .u) (c .pre .0) (c .pre .1);
+      bound = omega (arith, c .loop-i .inv .0, c .pre .0 .few);
+    }

@@ -22,17 +22,18 @@ index-list-to c =
 
 pub loop-j-again : need.loop-j-again
 loop-j-again c = elim (c .if-test .came) [
-    then-test w ↦
+  | then-test w ↦
       let f : SFits w32 (w .literal-of .result) = search needs in
       let e = sym (held-is (c .args .count) (c .args .mask .now) (c .loop-j .j) (c .loop-j-test .taken)) ∙ sym (w .if-test .ensures tt) in
       let l : c .loop-j .to < length (c .loop-j .list) =
-        room (c .args .count) (held (c .args .count) (c .args .mask .now)) (c .args .list .now) (c .args .at) (c .args .k) (c .loop-j .j) (c .loop-j .to) (c .loop-j .list) (c .loop-j-test .taken) (c .loop-j .inv) e (omega (arith, c .pre .fits .1)) in
+      room (c .args .count) (held (c .args .count) (c .args .mask .now)) (c .args .list .now) (c .args .at) (c .args .k) (c .loop-j .j) (c .loop-j .to) (c .loop-j .list) (c .loop-j-test .taken) (c .loop-j .inv) e (omega (arith, c .pre .fits .1)) in
       takes (c .args .count) (held (c .args .count) (c .args .mask .now)) (c .args .list .now) (c .args .at) (c .args .k) (c .loop-j .j) (c .loop-j .to) (c .loop-j .list) (c .loop-j-test .taken) (c .loop-j .inv)
       (c .if-test .to) (c .if-test .list) _ e l (toZ-ofZ w32 (w .literal-of .result) f ∙ w .literal-of .ensures) (w .to-is) (w .list-is)
   | else-test w ↦
       let e = sym (held-is (c .args .count) (c .args .mask .now) (c .loop-j .j) (c .loop-j-test .taken)) ∙ sym (w .if-test .ensures tt) in
       leaves (c .args .count) (held (c .args .count) (c .args .mask .now)) (c .args .list .now) (c .args .at) (c .args .k) (c .loop-j .j) (c .loop-j .to) (c .loop-j .list) (c .loop-j-test .taken) (c .loop-j .inv)
-      (c .if-test .to) (c .if-test .list) e (w .to-is) (w .list-is) ]
+      (c .if-test .to) (c .if-test .list) e (w .to-is) (w .list-is)
+]
 
 pub returns : need.returns
 returns c =

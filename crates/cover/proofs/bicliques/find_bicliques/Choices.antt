@@ -10,4 +10,4 @@ Inv-loop-i l =
     Went (l .count) (l .rows) (l .entry .words) (l .words) (l .entry .list) (l .list) (l .at) (l .used) (conflicts (l .count) (l .rows) (l .words), take (l .used) (l .list))
     × Degrees (l .count) (conflicts (l .count) (l .rows) (l .words)) (l .degrees)
     × _≡_ {A = Flat} (bicliques told (l .count) (l .count * l .count - l .i) (conflicts (l .count) (l .rows) (l .words), take (l .used) (l .list)))
-      (bicliques told (l .count) (l .count * l .count) (conflicts (l .count) (l .rows) (l .entry .words), take (l .at) (l .entry .list)))
+    (bicliques told (l .count) (l .count * l .count) (conflicts (l .count) (l .rows) (l .entry .words), take (l .at) (l .entry .list)))

@@ -12,10 +12,12 @@ loop-c-holds c = (omega arith, refl, best-none (λ x. getD (c .args .degrees .no
 
 pub loop-c-again : need.loop-c-again
 loop-c-again c = elim (c .if-beats .came) [
-      then-beats w ↦ picks-new (λ x. getD (c .args .degrees .now) x 0 + 1) (c .args .count) (c .loop-c .c) (c .loop-c .best) (c .loop-c .top) _ _ _ _ (c .loop-c-test .taken) (c .loop-c .inv .1) refl (c .loop-c .inv .2) (ltb-true _ _ (sym (w .if-beats .ensures tt))) (w .best-is) (w .top-is)
-    | else-beats w ↦ picks-old (λ x. getD (c .args .degrees .now) x 0 + 1) (c .args .count) (c .loop-c .c) (c .loop-c .best) (c .loop-c .top) _ _ _ _ (c .loop-c-test .taken) (c .loop-c .inv .1) refl (c .loop-c .inv .2) (c .loop-c .inv .0) (ltb-false _ _ (sym (w .if-beats .ensures tt))) (w .best-is) (w .top-is) ]
+  | then-beats w ↦ picks-new (λ x. getD (c .args .degrees .now) x 0 + 1) (c .args .count) (c .loop-c .c) (c .loop-c .best) (c .loop-c .top) _ _ _ _ (c .loop-c-test .taken) (c .loop-c .inv .1) refl (c .loop-c .inv .2) (ltb-true _ _ (sym (w .if-beats .ensures tt))) (w .best-is) (w .top-is)
+  | else-beats w ↦ picks-old (λ x. getD (c .args .degrees .now) x 0 + 1) (c .args .count) (c .loop-c .c) (c .loop-c .best) (c .loop-c .top) _ _ _ _ (c .loop-c-test .taken) (c .loop-c .inv .1) refl (c .loop-c .inv .2) (c .loop-c .inv .0) (ltb-false _ _ (sym (w .if-beats .ensures tt))) (w .best-is) (w .top-is)
+]
 
 pub returns : need.returns
 returns c = record {
   value = best-all (λ x. getD (c .args .degrees .now) x 0 + 1) (c .args .count) (c .loop-c .c) (c .loop-c .best) (c .loop-c-test .left) ∙ c .loop-c .inv .2;
-  bound = c .loop-c .inv .0 }
+  bound = c .loop-c .inv .0;
+}

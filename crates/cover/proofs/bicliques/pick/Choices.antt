@@ -9,4 +9,4 @@ Inv-loop-c l =
     (l .best < l .count)
     × (l .top ≡ score (l .count) (conflicts (l .count) (l .rows) (l .words)) (held (l .count) (l .a)) (held (l .count) (l .b)) (l .best))
     × (firstBest (score (l .count) (conflicts (l .count) (l .rows) (l .words)) (held (l .count) (l .a)) (held (l .count) (l .b))) (l .count - l .c) (l .c) (l .best)
-      ≡ chosen (l .count) (conflicts (l .count) (l .rows) (l .words)) (held (l .count) (l .a)) (held (l .count) (l .b)))
+    ≡ chosen (l .count) (conflicts (l .count) (l .rows) (l .words)) (held (l .count) (l .a)) (held (l .count) (l .b)))

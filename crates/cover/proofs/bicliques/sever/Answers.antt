@@ -21,4 +21,5 @@ returns c =
     let e : c .loop-u .u ≡ c .args .count = omega arith in
     record {
       gone = λ u j h g. c .loop-u .inv .0 u j (omega arith) g;
-      rest = λ i h. c .loop-u .inv .1 i (omega (arith, ap (λ z. z * c .args .rows) e)) }
+      rest = λ i h. c .loop-u .inv .1 i (omega (arith, ap (λ z. z * c .args .rows) e));
+    }

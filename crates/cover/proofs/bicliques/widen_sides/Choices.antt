@@ -8,4 +8,4 @@ abbrev pub Inv-loop-i : given.InvT-loop-i
 Inv-loop-i l =
     Neat (l .count) (l .rows) (l .a) × Neat (l .count) (l .rows) (l .b)
     × _≡_ {A = Sides} (widen (l .count) (conflicts (l .count) (l .rows) (l .words)) (l .count - l .i) (held (l .count) (l .a), held (l .count) (l .b)))
-      (widen (l .count) (conflicts (l .count) (l .rows) (l .words)) (l .count) (held (l .count) (l .entry .a), held (l .count) (l .entry .b)))
+    (widen (l .count) (conflicts (l .count) (l .rows) (l .words)) (l .count) (held (l .count) (l .entry .a), held (l .count) (l .entry .b)))

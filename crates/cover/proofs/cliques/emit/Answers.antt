@@ -23,7 +23,7 @@ pub loop-i-again : need.loop-i-again
 loop-i-again c =
     let f : SFits w32 (c .literal-of .result) = search needs in
     let g : toZ w32 (ofZ w32 (c .literal-of .result)) ≡ getD (map literal (c .args .members .now)) (c .loop-i .i) (pos 0) =
-      toZ-ofZ w32 (c .literal-of .result) f ∙ c .literal-of .ensures ∙ sym (getD-map literal (c .args .members .now) (c .loop-i .i) 0 (pos 0) (omega arith)) in
+    toZ-ofZ w32 (c .literal-of .result) f ∙ c .literal-of .ensures ∙ sym (getD-map literal (c .args .members .now) (c .loop-i .i) 0 (pos 0) (omega arith)) in
     let len : length (map literal (c .args .members .now)) ≡ length (c .args .members .now) = length-map (c .args .members .now) literal in
     let room : c .args .at + 1 + c .loop-i .i < length (set (c .args .list .now) (c .args .at) (toZ w32 (c .args .k))) = simp length-set (omega arith) in
     ap (λ z. set z (c .args .at + 1 + c .loop-i .i) (toZ w32 (ofZ w32 (c .literal-of .result)))) (c .loop-i .inv)

@@ -14,7 +14,8 @@ loop-u-holds c = (went-none (c .args .count) (c .args .rows) (c .args .words .no
 pub visit-row-requires : need.visit-row-requires
 visit-row-requires c κs = record {
   fit = (c .loop-u .inv .0 .fit, (c .pre .fit .1, omega (arith, c .loop-u .inv .0 .high)));
-  room = (omega arith, (omega arith, c .loop-u-test .taken)) }
+  room = (omega arith, (omega arith, c .loop-u-test .taken));
+}
 
 pub returns-in-rest : need.returns-in-rest
 returns-in-rest c =
@@ -24,10 +25,11 @@ returns-in-rest c =
 
 pub loop-u-again : need.loop-u-again
 loop-u-again c =
-    let q = c .in-Some .ensures tt in
-    (went-as _ _ _ _ _ _ _ _ _ _ refl (went-on _ _ _ _ _ _ _ _ _ _ _ _ _ (c .loop-u .kept .list) (c .loop-u .inv .0) q),
+    let q = c .in-Some .ensures tt in (
+      went-as _ _ _ _ _ _ _ _ _ _ refl (went-on _ _ _ _ _ _ _ _ _ _ _ _ _ (c .loop-u .kept .list) (c .loop-u .inv .0) q),
       ap (λ (s : Flat). sweep told (c .args .count) s (c .args .count - (c .loop-u .u + 1)) (c .loop-u .u + 1)) (q .state)
-      ∙ sym (sweep-more (c .args .count) (conflicts (c .args .count) (c .args .rows) (c .loop-u .words), take (c .loop-u .used) (c .loop-u .list)) (c .loop-u .u) (c .loop-u-test .taken)) ∙ c .loop-u .inv .1)
+          ∙ sym (sweep-more (c .args .count) (conflicts (c .args .count) (c .args .rows) (c .loop-u .words), take (c .loop-u .used) (c .loop-u .list)) (c .loop-u .u) (c .loop-u-test .taken)) ∙ c .loop-u .inv .1,
+    )
 
 pub returns : need.returns
 returns c = went-as _ _ _ _ _ _ _ _ _ _ (sym (sweep-all (c .args .count) (conflicts (c .args .count) (c .args .rows) (c .loop-u .words), take (c .loop-u .used) (c .loop-u .list)) (c .loop-u .u) (c .loop-u-test .left)) ∙ c .loop-u .inv .1) (c .loop-u .inv .0)

@@ -10,4 +10,4 @@ abbrev pub Inv-loop-u : given.InvT-loop-u
 Inv-loop-u l =
     Went (l .count) (l .rows) (l .entry .words) (l .words) (l .entry .list) (l .list) 0 (l .used) (conflicts (l .count) (l .rows) (l .words), take (l .used) (l .list))
     × _≡_ {A = Flat} (sweep told (l .count) (conflicts (l .count) (l .rows) (l .words), take (l .used) (l .list)) (l .count - l .u) (l .u))
-      (sweep told (l .count) (conflicts (l .count) (l .rows) (l .entry .words), []) (l .count) 0)
+    (sweep told (l .count) (conflicts (l .count) (l .rows) (l .entry .words), []) (l .count) 0)

@@ -12,9 +12,10 @@ loop-k-holds c =
 
 pub meet-requires : need.meet-requires
 meet-requires c κs = (
-    omega arith,
-    row-in _ _ _ _ (in-range (c .args .count) (c .args .rows) (c .args .words .now) (c .pre .tidy) (c .pre .loose) (c .pre .pair .1 .1 .1) (c .args .u) (c .args .w)
-      (c .loop-k .k) (c .loop-k .from) (c .loop-k .mask) (c .loop-k .members) (c .loop-k .inv) (c .in-Some .c) (c .in-Some .ensures tt)) (c .pre .room .1 .0))
+  omega arith,
+  row-in _ _ _ _ (in-range (c .args .count) (c .args .rows) (c .args .words .now) (c .pre .tidy) (c .pre .loose) (c .pre .pair .1 .1 .1) (c .args .u) (c .args .w)
+      (c .loop-k .k) (c .loop-k .from) (c .loop-k .mask) (c .loop-k .members) (c .loop-k .inv) (c .in-Some .c) (c .in-Some .ensures tt)) (c .pre .room .1 .0),
+)
 
 pub loop-k-again : need.loop-k-again
 loop-k-again c =
@@ -26,14 +27,16 @@ pub returns-after-loop-k : need.returns-after-loop-k
 returns-after-loop-k c = record {
   within = c .loop-k .inv .0;
   places = placed (c .args .count) (c .args .rows) (c .args .words .now) (c .pre .tidy) (c .pre .loose) (c .pre .pair .1 .1 .1) (c .args .u) (c .args .w)
-    (c .loop-k .k) (c .loop-k .from) (c .loop-k .mask) (c .loop-k .members) (c .loop-k .inv) (omega (arith, c .loop-k .inv .0, simp length-set at (c .loop-k .kept .members)));
+      (c .loop-k .k) (c .loop-k .from) (c .loop-k .mask) (c .loop-k .members) (c .loop-k .inv) (omega (arith, c .loop-k .inv .0, simp length-set at (c .loop-k .kept .members)));
   grows = filled (c .args .count) (c .args .rows) (c .args .words .now) (c .pre .tidy) (c .pre .loose) (c .pre .pair .1 .1 .1) (c .args .u) (c .args .w)
-    (c .loop-k .k) (c .loop-k .from) (c .loop-k .mask) (c .loop-k .members) (c .loop-k .inv) (c .loop-k-test .left) (omega (arith, c .loop-k .inv .0, simp length-set at (c .loop-k .kept .members))) }
+      (c .loop-k .k) (c .loop-k .from) (c .loop-k .mask) (c .loop-k .members) (c .loop-k .inv) (c .loop-k-test .left) (omega (arith, c .loop-k .inv .0, simp length-set at (c .loop-k .kept .members)));
+}
 
 pub returns-in-rest : need.returns-in-rest
 returns-in-rest c = record {
   within = c .loop-k .inv .0;
   places = placed (c .args .count) (c .args .rows) (c .args .words .now) (c .pre .tidy) (c .pre .loose) (c .pre .pair .1 .1 .1) (c .args .u) (c .args .w)
-    (c .loop-k .k) (c .loop-k .from) (c .loop-k .mask) (c .loop-k .members) (c .loop-k .inv) (omega (arith, c .loop-k .inv .0, simp length-set at (c .loop-k .kept .members)));
+      (c .loop-k .k) (c .loop-k .from) (c .loop-k .mask) (c .loop-k .members) (c .loop-k .inv) (omega (arith, c .loop-k .inv .0, simp length-set at (c .loop-k .kept .members)));
   grows = ended (c .args .count) (c .args .rows) (c .args .words .now) (c .pre .tidy) (c .pre .loose) (c .pre .pair .1 .1 .1) (c .args .u) (c .args .w)
-    (c .loop-k .k) (c .loop-k .from) (c .loop-k .mask) (c .loop-k .members) (c .loop-k .inv) (c .in-rest .ensures tt) }
+      (c .loop-k .k) (c .loop-k .from) (c .loop-k .mask) (c .loop-k .members) (c .loop-k .inv) (c .in-rest .ensures tt);
+}

@@ -11,11 +11,11 @@ use Rattle.cover.proofs.masks.share.Needs as need
 pub loop-i-again : need.loop-i-again
 loop-i-again c k p q =
     ⊎-elim (λ e.
-      let lt : c .loop-i .i < length (c .loop-i .mask) = omega arith in
-      subst (λ z. getD (set (c .loop-i .mask) (c .loop-i .i) (bitAnd (getD (c .args .words .now) (c .args .a + c .loop-i .i) 0) (getD (c .args .words .now) (c .args .b + c .loop-i .i) 0))) z 0
-          ≡ bitAnd (getD (c .args .words .now) (c .args .a + z) 0) (getD (c .args .words .now) (c .args .b + z) 0)) (sym e)
-        (getD-set-same (c .loop-i .mask) (c .loop-i .i) _ 0 lt))
+    let lt : c .loop-i .i < length (c .loop-i .mask) = omega arith in
+    subst (λ z. getD (set (c .loop-i .mask) (c .loop-i .i) (bitAnd (getD (c .args .words .now) (c .args .a + c .loop-i .i) 0) (getD (c .args .words .now) (c .args .b + c .loop-i .i) 0))) z 0
+    ≡ bitAnd (getD (c .args .words .now) (c .args .a + z) 0) (getD (c .args .words .now) (c .args .b + z) 0)) (sym e)
+    (getD-set-same (c .loop-i .mask) (c .loop-i .i) _ 0 lt))
     (λ ne.
-      let ne′ : k ≢ c .loop-i .i = ne in
-      getD-set-other (c .loop-i .mask) (c .loop-i .i) k _ 0 ne′ ∙ c .loop-i .inv k p (omega arith))
+    let ne′ : k ≢ c .loop-i .i = ne in
+    getD-set-other (c .loop-i .mask) (c .loop-i .i) k _ 0 ne′ ∙ c .loop-i .inv k p (omega arith))
     (cases-eq k (c .loop-i .i))

@@ -11,14 +11,16 @@ use Rattle.cover.proofs.masks.size.Needs as need
 
 pub loop-i-again : need.loop-i-again
 loop-i-again c =
-    let f : Fits w64 (getD (c .args .mask .now) (c .loop-i .i) 0) = c .typed .mask (c .loop-i .i) in
-    (omega (arith, c .loop-i .inv .0, c .tally-n .ensures .bound),
+    let f : Fits w64 (getD (c .args .mask .now) (c .loop-i .i) 0) = c .typed .mask (c .loop-i .i) in (
+      omega (arith, c .loop-i .inv .0, c .tally-n .ensures .bound),
       ap₂ _+_ (c .loop-i .inv .1) (c .tally-n .ensures .value)
-      ∙ sym (word-more (marked (c .args .mask .now)) (c .loop-i .i) (getD (c .args .mask .now) (c .loop-i .i) 0) (omega arith) (mask-word (c .args .mask .now) (c .loop-i .i))))
+          ∙ sym (word-more (marked (c .args .mask .now)) (c .loop-i .i) (getD (c .args .mask .now) (c .loop-i .i) 0) (omega arith) (mask-word (c .args .mask .now) (c .loop-i .i))),
+    )
 
 pub returns : need.returns
 returns c =
     let e : c .loop-i .i ≡ c .args .rows = omega arith in
     record {
       value = c .loop-i .inv .1 ∙ ap (λ z. count (marked (c .args .mask .now)) (64 * z) 0) e ∙ size-is (c .args .count) (c .args .rows) (c .args .mask .now) (c .pre .1 .1 .0) (c .pre .1 .1 .1);
-      bound = omega (arith, c .loop-i .inv .0) }
+      bound = omega (arith, c .loop-i .inv .0);
+    }
