@@ -1,0 +1,9 @@
+pub mod Blocks
+pub mod Inner
+pub mod Walks
+pub mod Puts
+pub mod Rests
+pub mod Covered
+pub mod Covers
+pub mod Ends
+pub mod Calls

@@ -1,0 +1,4 @@
+pub mod Block
+pub mod Listed
+pub mod Remaining
+pub mod Covering
