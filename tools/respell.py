@@ -19,7 +19,10 @@ BY_HAND = {
     # names that had landed
     "sumBelow": "sum",
     "codeClauses": "codes",
-    # a definition of the same module has the plain name
+    # another name of the same module has the plain spelling
+    "twoByTwo": "two_against_two",
+    "twoByThree": "two_against_three",
+    "first-broken": "first_broken_is",
     "others-of": "others_of_all",
     "opened-variables": "variables_of_opened",
 }
@@ -101,12 +104,16 @@ def turned(path, text, names, fields):
     made = set()
     if path.endswith(".antt"):
         made = set(re.findall(r"\b(?:goal|given)\.([A-Za-z_][\w']*(?:-[\w']+)*)", text))
+    # a name that this file brings from a library of the kit
+    brought = set()
+    for m in re.finditer(r"(?m)^\s*(?:ghost\s+)?use\s+(?:Rattle\.std|lib|mathlib|native|Prim|mir)\b[^{}\n]*\{([^}]*)\}", text):
+        brought |= {it.split(" as ")[-1].strip() for it in m[1].split(",")}
     spans = blanked(text) if path.endswith(".rt") else []
     comments = [(m.start(), m.end()) for m in re.finditer(r"--[ \-].*", text)] if path.endswith(".antt") else []
 
     def one(m):
         w = m[0]
-        if w not in names or w in made:
+        if w not in names or w in made or w in brought:
             return w
         a = m.start()
         if any(s <= a < e for s, e in spans):

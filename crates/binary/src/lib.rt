@@ -1,4 +1,6 @@
 // Binary: each member fixes all bits of its place, counted from 0, lowest bit first. The auxiliaries are the bits.
+#![tactic(auto)]
+
 ghost use Rattle.std.specs.Prelude.{◌≡◌, ◌+◌, ◌*◌, ◌<◌, ◌≤◌, length};
 ghost use Rattle.logic.specs.Literal.{variable, complement};
 ghost use Rattle.encoder_theory.specs.Members.{auxiliary};

@@ -1,4 +1,6 @@
 // Reads a DIMACS file from standard input, and prints its clauses, or the fault that it has.
+#![tactic(auto)]
+
 use compactor::{MAX_BYTES, compact};
 use std::io;
 use std::io::{Read, Write};

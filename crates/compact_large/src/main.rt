@@ -1,5 +1,7 @@
 // Reads a large DIMACS file from standard input, and prints the equivalent file with its conflicts written short, or the fault that it has;
 // where it printed a file, it tells the account of the compaction on standard error.
+#![tactic(auto)]
+
 use compaction::{Account, Scale, compact_with_account, most_bytes};
 use std::io;
 use std::io::{Read, Write};

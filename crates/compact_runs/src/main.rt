@@ -1,4 +1,6 @@
 // Prints what `compact` prints for each file that an argument names.
+#![tactic(auto)]
+
 use compactor::compact;
 use std::io::Write;
 use std::{env, fs, io};

@@ -1,4 +1,6 @@
 // Reads a DIMACS file from standard input, and prints the equivalent file with its conflicts written short, or the fault that it has.
+#![tactic(auto)]
+
 use compaction::{Scale, compact, most_bytes};
 use std::io;
 use std::io::{Read, Write};

@@ -9,6 +9,8 @@
 //   `never_short` that no refusal for want of room comes out
 //   `account`     every figure of the account, and that there is one exactly where no fault is printed
 // and `compact` hands on its bytes.
+#![tactic(auto)]
+
 mod choice;
 mod output;
 mod sorting;

@@ -1,5 +1,7 @@
 // What the program `compact` prints for the bytes of a file, and what that keeps: definitions and their proofs.
 // A function here does nothing: its contract is a theorem of the definitions.
+#![tactic(auto)]
+
 ghost use Rattle.compaction_theory.specs.Account.{AccountWhenPrinted, EveryFileAccounted, CountsOnce, ConflictsDiffer, CompactionBalances};
 ghost use Rattle.compaction_theory.specs.Buffers.{NetworkCovered, WritingAccepted, FewerNumbers, TextFits, NeverShort};
 ghost use Rattle.compaction_theory.specs.Promises.{EveryFileCompacted, EveryInputDecided, SameFilesPrintAlike, LargeHasRoom};

@@ -1,6 +1,8 @@
 // The work of the program `compact`: from the bytes of a file to the bytes that it prints.
 //
 // For now it reads a DIMACS file and prints the same clauses in the written form, or the fault on one line.
+#![tactic(auto)]
+
 ghost use Rattle.std.specs.Prelude.{◌≡◌, ℕ, ◌<◌, ◌≤◌, List, [], ◌∷◌, ◌++◌, length, replicate, pos, IfOk, if◌then◌else◌, Ok, Err, vec_len, nat_lt};
 ghost use Rattle.fault.specs.Fault.{fault_text};
 ghost use Rattle.dimacs.specs.Reading.{fault_at};

@@ -1,4 +1,6 @@
 // The limits of `compact`, at their edges.
+#![tactic(auto)]
+
 #[cfg(test)]
 mod tests {
     use compactor::compact;

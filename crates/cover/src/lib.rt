@@ -6,6 +6,8 @@
 //   `partition`  the law: every conflict of the network is in exactly one part or remains, and nothing else is
 //   `ended`      that no biclique with a gain is left to take, and no growth was cut short
 //   `alone`      that the cover depends on the number of variables and the conflicts alone
+#![tactic(auto)]
+
 mod bicliques;
 mod cliques;
 mod masks;

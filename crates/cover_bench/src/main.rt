@@ -1,5 +1,7 @@
 // Covers a network that it builds itself, and prints what came of it; the seconds that the cover took go to standard error.
 // Usage: cover_bench KIND N SEED, where KIND is sparse, timetable or dense. bench/cover.cpp builds the same networks.
+#![tactic(auto)]
+
 mod networks;
 
 use anyhow::anyhow;

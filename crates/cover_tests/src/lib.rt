@@ -1,3 +1,5 @@
 // Tests of the cover at its edges.
+#![tactic(auto)]
+
 #[cfg(test)]
 mod tests;

@@ -1,7 +1,7 @@
 -- The cover as it lies in the list and in the words.
 use Rattle.std.proofs.Common.{◌≡◌, ℕ, zero, suc, ◌+◌, ◌-◌, ◌*◌, ◌/◌, ◌%◌, ◌^◌, ◌<◌, ◌≤◌, Bool, true, false, cond, not, ◌&&◌, ◌||◌, eqb, ltb, leb, List, [], ◌∷◌, ◌++◌, map, length, get_or, take, drop, replicate, ℤ, pos, sym, refl, ap, ◌∙◌, subst, ap₂, ⊎_elim, append_assoc, mul_comm, mul-zero, one-add, arith}
 use Rattle.std.specs.List.{range_with_len}
-use Rattle.std.proofs.lemmas.List.{append-nil, length-append, length_map, length-take-le, length-drop, length-replicate, get_or_default, get_or_append_left, get_or-append_right, get_or-drop, get_or-take, get_or-replicate, same_lists}
+use Rattle.std.proofs.lemmas.List.{append-nil, length-append, length-map, length-take-le, length-drop, length-replicate, get_or_default, get_or_append_left, get_or-append_right, get_or-drop, get_or-take, get_or-replicate, same_lists}
 use Rattle.std.proofs.lemmas.List.FromFn.{length-map-range_with_len, get_or-map-range_with_len}
 use Rattle.std.proofs.lemmas.Bool.{cases_lt, lt-ltb, le-ltb}
 use Rattle.std.proofs.lemmas.Bool.Decides.{nat_tests}
@@ -56,8 +56,8 @@ module _ {X Y : Type 0} (f : X → Y) (add : X → Part ℕ → X) (add' : Y →
   ruled_lift s = bicliques_lift (N * N) (sweep add N s N 0) ∙ ap (bicliques add' N (N * N)) (sweep_lift s N 0)
 
 listed_is : (P : Part ℕ) → numbers_of (of_literals P) ≡ listed P
-listed_is (clique ms) = ap (λ n. pos n ∷ map literal ms) (length_map ms literal)
-listed_is (biclique xs ys) = ap₂ (λ a b. minus a ∷ pos b ∷ (map literal xs ++ map literal ys)) (length_map xs literal) (length_map ys literal)
+listed_is (clique ms) = ap (λ n. pos n ∷ map literal ms) (length-map ms literal)
+listed_is (biclique xs ys) = ap₂ (λ a b. minus a ∷ pos b ∷ (map literal xs ++ map literal ys)) (length-map xs literal) (length-map ys literal)
 
 numbers_push : (Ps : List (Part ℕ)) (P : Part ℕ) → numbers (map of_literals (also Ps P)) ≡ told (numbers (map of_literals Ps)) P
 numbers_push [] P = append-nil (numbers_of (of_literals P)) ∙ listed_is P

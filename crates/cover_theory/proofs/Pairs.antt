@@ -1,6 +1,6 @@
 -- The loop that takes biclique after biclique.
 use Rattle.std.proofs.Common.{◌≡◌, ℕ, zero, suc, ◌+◌, ◌-◌, ◌*◌, ◌/◌, ◌%◌, ◌^◌, ◌<◌, ◌≤◌, Bool, true, false, cond, not, ◌&&◌, ◌||◌, eqb, ltb, leb, List, [], ◌∷◌, ◌++◌, map, length, get_or, take, drop, set, ℤ, pos, sym, refl, ap, ◌∙◌, subst, ap₂, ⊎_elim, append_assoc, arith, length-set}
-use Rattle.std.proofs.lemmas.List.{length-append, length_map, length-take-le, take_at, drop_at, drop-drop, take_more_set, drop-set-lt}
+use Rattle.std.proofs.lemmas.List.{length-append, length-map, length-take-le, take_at, drop_at, drop-drop, take_more_set, drop-set-lt}
 use Rattle.std.proofs.lemmas.Bool.{cond-true, cond-false, cond_both, cases_lt, le-ltb, lt-ltb, and_left}
 use Rattle.logic.specs.Literal.{literal}
 use Rattle.cover_theory.specs.Parts.{Part, clique, biclique}
@@ -40,7 +40,7 @@ test_ends N s x y p q h = ap₂ (λ a b. ltb (a + b) (a * b)) (sym p) (sym q) �
 pub length_sides : (N : ℕ) (a b : List ℕ) → length (listed (sides_part N a b)) ≡ count (held N a) N 0 + count (held N b) N 0 + 2
 length_sides N a b =
     let A = those (held N a) N 0 in let B = those (held N b) N 0 in
-    omega (arith, length-append (map literal A) (map literal B), length_map A literal, length_map B literal, length_those (held N a) N 0, length_those (held N b) N 0)
+    omega (arith, length-append (map literal A) (map literal B), length-map A literal, length-map B literal, length_those (held N a) N 0, length_those (held N b) N 0)
 
 module _ (xs : List ℤ) (A B : List ℕ) (at x y : ℕ) (mx py : ℤ) (xa : length A ≡ x) (yb : length B ≡ y) (room : at + x + y + 2 ≤ length xs)
     (e : mx ≡ minus x) (f : py ≡ pos y) (zs ys₁ ys₂ : List ℤ) (zs-is : zs ≡ set (set xs at mx) (at + 1) py)
@@ -65,7 +65,7 @@ module _ (xs : List ℤ) (A B : List ℕ) (at x y : ℕ) (mx py : ℤ) (xa : len
       ∙ sym (append_assoc (take at xs) (mx ∷ py ∷ map literal A) (drop (at + 2 + x) xs))
 
   front_length : length (take at xs ++ (mx ∷ py ∷ map literal A)) ≡ at + 2 + x
-  front_length = omega (arith, length-append (take at xs) (mx ∷ py ∷ map literal A), length-take-le at xs (omega arith), length_map A literal)
+  front_length = omega (arith, length-append (take at xs) (mx ∷ py ∷ map literal A), length-take-le at xs (omega arith), length-map A literal)
 
   pub written : ys₂ ≡ take at xs ++ (listed (biclique A B) ++ drop (at + x + y + 2) xs)
   written =

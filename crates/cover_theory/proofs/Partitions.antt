@@ -1,6 +1,6 @@
 -- The cover of the rule is a partition of the conflicts, and a function of them alone.
 use Rattle.std.proofs.Common.{◌≡◌, ℕ, zero, suc, ◌+◌, ◌-◌, ◌*◌, ◌/◌, ◌<◌, ◌≤◌, Bool, true, false, cond, not, ◌&&◌, ◌||◌, ◌≢◌, ◌⊎◌, List, [], ◌∷◌, ◌++◌, map, length, get_or, ℤ, pos, sym, refl, ap, ◌∙◌, subst, ap₂, inl, inr, ⊎_elim, arith}
-use Rattle.std.proofs.lemmas.List.{length_map}
+use Rattle.std.proofs.lemmas.List.{length-map}
 use Rattle.std.proofs.lemmas.Bool.{cases_order}
 use Rattle.logic.specs.Literal.{variable, Literal, index, literal}
 use Rattle.logic.specs.Clause.{In}
@@ -59,7 +59,7 @@ literals n xs h p i = let x = in_map literal xs p i in subst (Literal n) x.2 (li
 
 sound_literals : (n : ℕ) (rel : Rel) → ((u w : ℕ) → rel u w ≡ true → u / 2 ≡ w / 2 → ⊥) → (P : Part ℕ) → SoundAt (2 * n) rel P → Sound n (of_literals P)
 sound_literals n rel apart (clique ms) h =
-    let l = length_map ms literal in
+    let l = length-map ms literal in
     (literals n ms h.0, distinct rel apart ms h.1, omega (arith, h.2), omega (arith, h.3))
 sound_literals n rel apart (biclique xs ys) h = (
   literals n xs h.0,
@@ -68,8 +68,8 @@ sound_literals n rel apart (biclique xs ys) h = (
   map_once literal same_literal ys h.3,
   (λ p i j. let x = in_map literal xs p i in let y = in_map literal ys p j in
       h.4 x.0 x.1 (subst (λ z. In z ys) (same_literal y.0 x.0 (y.2 ∙ sym x.2)) y.1)),
-  subst (λ z. z + length (map literal ys) < z * length (map literal ys)) (sym (length_map xs literal))
-      (subst (λ z. length xs + z < length xs * z) (sym (length_map ys literal)) h.5),
+  subst (λ z. z + length (map literal ys) < z * length (map literal ys)) (sym (length-map xs literal))
+      (subst (λ z. length xs + z < length xs * z) (sym (length-map ys literal)) h.5),
 )
 
 -- ---- remaining pairs

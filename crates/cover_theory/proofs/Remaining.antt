@@ -1,7 +1,7 @@
 -- How many conflicts remain.
 use Rattle.std.proofs.Common.{◌≡◌, ℕ, zero, suc, ◌+◌, ◌-◌, ◌*◌, ◌/◌, ◌%◌, ◌^◌, ◌<◌, ◌≤◌, Bool, true, false, cond, not, ◌&&◌, ◌||◌, ltb, leb, ◌⊎◌, List, [], ◌∷◌, ◌++◌, map, length, get_or, ℤ, sym, refl, ap, ◌∙◌, subst, ap₂, inl, inr, ⊎_elim, zero-mul, add-one, arith}
 use lib.Count.{ones}
-use Rattle.std.proofs.lemmas.List.{length-append, length_map}
+use Rattle.std.proofs.lemmas.List.{length-append, length-map}
 use Rattle.std.proofs.lemmas.Bool.{le-leb, lt-leb, and_left, and_right}
 use Rattle.logic.specs.Literal.{literal}
 use Rattle.logic.specs.Clause.{In}
@@ -45,7 +45,7 @@ pub pairs_more : (N : ℕ) (r : Rel) (u : ℕ) → u < N → length (pairs_from 
 pairs_more N r u h =
     ap (λ k. length (pairs_from N r k u)) (let e : N - u ≡ suc (N - (u + 1)) = omega arith in e)
     ∙ length-append (map (λ w. (literal u, literal w)) (those (r u) (N - suc u) (suc u))) (pairs_from N r (N - (u + 1)) (suc u))
-    ∙ ap (λ n. n + length (pairs_from N r (N - (u + 1)) (suc u))) (length_map (those (r u) (N - suc u) (suc u)) (λ w. (literal u, literal w)) ∙ length_those (r u) (N - suc u) (suc u))
+    ∙ ap (λ n. n + length (pairs_from N r (N - (u + 1)) (suc u))) (length-map (those (r u) (N - suc u) (suc u)) (λ w. (literal u, literal w)) ∙ length_those (r u) (N - suc u) (suc u))
     ∙ ap (λ n. count (r u) (N - n) n + length (pairs_from N r (N - (u + 1)) n)) (sym (add-one u))
 
 pub pairs_start : (N : ℕ) (r : Rel) → length (pairs_from N r (N - 0) 0) ≡ length (pairs_from N r N 0)

@@ -1,5 +1,5 @@
 use Rattle.std.proofs.Common.{◌≡◌, ℕ, zero, suc, ◌+◌, ◌-◌, ◌*◌, ◌/◌, ◌%◌, ◌^◌, ◌<◌, ◌≤◌, min, Bool, true, false, cond, not, ◌&&◌, ◌||◌, eqb, ltb, leb, List, [], ◌∷◌, ◌++◌, map, length, get_or, take, drop, set, ℤ, pos, sym, refl, ap, ◌∙◌, subst, ap₂, ⊎_elim, append_assoc, add-one, arith}
-use Rattle.std.proofs.lemmas.List.{length-append, length_map, length-take-le, take_at, drop_at, drop-drop}
+use Rattle.std.proofs.lemmas.List.{length-append, length-map, length-take-le, take_at, drop_at, drop-drop}
 use Rattle.std.proofs.lemmas.Bool.{cond-true, cond-false, cases_Bool, cases_lt, both_ways, le-leb, and_left}
 use Rattle.cover_theory.specs.Rule.{Rel, among, without, grown, taken, visit, visits, sweep}
 use Rattle.cover_theory.specs.Parts.{Part, clique}
@@ -22,7 +22,7 @@ module _ (N R : ℕ) (ws : List ℕ) (xs : List ℤ) (u w at : ℕ) (ms : List �
   too_short k h short len =
       let e : length (visit told N (conflicts N R ws, take at xs) u w).1 ≡ at + suc (length ms) =
       ap (λ (s : Flat). length s.1) visit_big ∙ length-append (take at xs) (listed (clique ms))
-      ∙ ap₂ (λ a b. a + suc b) (length-take-le at xs h) (length_map ms literal) in
+      ∙ ap₂ (λ a b. a + suc b) (length-take-le at xs h) (length-map ms literal) in
       omega arith
 
   module _ (vs : List ℕ) (ys : List ℤ) (k : ℕ) (len : length ms ≡ k) (at_in : at + k + 1 ≤ length xs) (same : length vs ≡ length ws)
@@ -41,7 +41,7 @@ module _ (N R : ℕ) (ws : List ℕ) (xs : List ℤ) (u w at : ℕ) (ms : List �
 
     front : length (take at xs ++ listed (clique ms)) ≡ at + k + 1
     front =
-        let e = length-append (take at xs) (listed (clique ms)) in let f = length-take-le at xs (omega arith) in let g = length_map ms literal in
+        let e = length-append (take at xs) (listed (clique ms)) in let f = length-take-le at xs (omega arith) in let g = length-map ms literal in
         omega (arith, e, f, g)
 
     regrouped : ys ≡ (take at xs ++ listed (clique ms)) ++ drop (at + k + 1) xs

@@ -43,6 +43,6 @@ abbrev pub word : ℕ → (ℕ → Bool) → ℕ
 word zero p = 0
 word (suc k) p = cond (p 0) 1 0 + 2 * word k (λ j. p (suc j))
 
--- the needed words that hold a relation in the layout of a network: word i is word i % rowWords n of the row i / rowWords n
+-- the needed words that hold a relation in the layout of a network: word i is word i % row_words n of the row i / row_words n
 abbrev pub words_holding : ℕ → Rel → List ℕ
 words_holding n rel = map (λ i. word 64 (λ j. rel (i / row_words n) (64 * (i % row_words n) + j))) (range_with_len 0 (words_needed n))

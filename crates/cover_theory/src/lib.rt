@@ -1,5 +1,7 @@
 // What a cover is: parts and remaining conflicts; the rule that makes the cover of a network, and its laws.
 // Only definitions and theorems stand here; the `cover` crate computes.
+#![tactic(auto)]
+
 ghost use Rattle.std.specs.Prelude.{◌≡◌, length};
 ghost use Rattle.cover_theory.specs.Rule.{cover_of};
 ghost use Rattle.cover_theory.specs.Examples.{against, TwoAgainstTwo, TwoAgainstThree};

@@ -1,5 +1,6 @@
 // What DIMACS CNF text means: well-formed files, the reader's rule byte by byte, the writer's rule.
 // Only types, definitions and theorems stand here; the `text` crate reads and writes.
+#![tactic(auto)]
 
 // What a byte is to the reader.
 #[derive(Clone, Copy)]

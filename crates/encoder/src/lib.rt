@@ -1,6 +1,8 @@
 // Encoders of "at most one of the members is true": one trait with four total calls, whose meaning keeps five laws,
 // and the checks that decide what a call admits, for every encoder alike.
 // Whoever writes an encoder gives its meaning, proves the laws, and refuses by `check_count`, `check_members` and `check_place`.
+#![tactic(auto)]
+
 ghost use Rattle.std.specs.Prelude.{◌≡◌, ◌*◌, Decides, nat_le, unsigned_abs};
 ghost use Rattle.encoder_theory.specs.Members.{Proper};
 ghost use Rattle.encoder_theory.specs.Meaning.{Meaning};

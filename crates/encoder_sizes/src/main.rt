@@ -1,5 +1,7 @@
 // Prints the numbers of clauses and auxiliaries of several encoders and piles side by side:
 // a column for each number of members, a row for each encoder, in each cell the clauses and then the auxiliaries.
+#![tactic(auto)]
+
 use binary::Binary;
 use encoder::Encoder;
 use layers::{Commander, Tower};

@@ -1,4 +1,6 @@
 // Tests of the three encoders on examples: sizes, clauses, values, refusals, and what a buffer keeps.
+#![tactic(auto)]
+
 #[cfg(test)]
 mod tests {
     use binary::Binary;

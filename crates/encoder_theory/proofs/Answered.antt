@@ -69,7 +69,7 @@ module _ (M : Meaning) (m : ℕ) (t : Option ℕ) (out : List ℕ) (a : ℕ) (ta
       let p = (placed_decides m t).0 g.0 in
       (p.0, p.1, leb-true _ _ g.1)
 
--- isAdmitted members are literals of 32 bits
+-- admitted members are literals of 32 bits
 pub small_members : (xs : List ℤ) (first n : ℕ) → Admitted xs first n → (i : ℕ) → i < length xs → variable (member xs i) ≤ last_end
 small_members xs first n ok i l = let b = ok.proper.below i l in let f = ok.fits in omega arith
 

@@ -75,7 +75,7 @@ pub many_refused : (xs : List ℤ) (first : ℤ) (n : ℕ) → leb (length xs) m
 many_refused xs (pos first) n h = and_left _ _ (and_left _ _ (and_left _ _ h))
 many_refused xs (negsuc k) n h = refl
 
--- what an isAdmitted call knows of its first number
+-- what an admitted call knows of its first number
 pub admitted_first : (xs : List ℤ) (first : ℤ) (n : ℕ) → is_admitted xs first n ≡ true → (z : ℕ) × (first ≡ pos z) × Admitted xs z n
 admitted_first xs (pos z) n h = (z, refl, (admitted_decides xs z n).0 h)
 admitted_first xs (negsuc k) n h = absurd (both_ways false refl h)

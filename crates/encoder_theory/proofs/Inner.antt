@@ -2,7 +2,7 @@
 use Rattle.std.proofs.Common.{◌≡◌, ℕ, ◌+◌, ◌-◌, ◌*◌, ◌≤◌, Bool, true, false, cond, leb, List, ◌++◌, map, length, take, drop, ℤ, pos, Ok, Err, Option, sym, refl, ap, ◌∙◌, subst, mul-le-mul, arith}
 use borrow.Rule.Slice.PartMut.{put_mid}
 use Rattle.std.proofs.lemmas.Bool.{le-leb, cond-true}
-use Rattle.std.proofs.lemmas.List.{length_map, length-drop, take_rest}
+use Rattle.std.proofs.lemmas.List.{length-map, length-drop, take_rest}
 use Rattle.fault.specs.declared.Fault.{Fault}
 use Rattle.logic.specs.Clause.{flat}
 use Rattle.logic.proofs.Clauses.{length_flat}
@@ -50,7 +50,7 @@ module _ (M : Meaning) (law : Lawful M) where
       → part ≡ values_leaves M m t (take (length buf - at) (drop at buf))
       → put_mid at (length buf - at) buf part ≡ with_block buf at (map byte (M.values m t))
   values_put m t at buf part few w room e =
-      let n : length (map byte (M.values m t)) ≡ M.auxiliaries m = length_map (M.values m t) byte ∙ law.well_formed.valued m t few w in
+      let n : length (map byte (M.values m t)) ≡ M.auxiliaries m = length-map (M.values m t) byte ∙ law.well_formed.valued m t few w in
       block_part buf part (map byte (M.values m t)) at (length buf - at) (M.auxiliaries m) (omega arith) refl n
       (e ∙ values_is M m t (take (length buf - at) (drop at buf)) few w (part_room buf at _ room))
 
@@ -60,7 +60,7 @@ module _ (M : Meaning) (law : Lawful M) where
       block_start old (flat (M.list xs first)) (2 * M.clauses (length xs)) (length_flat (M.list xs first) ∙ ap (λ k. 2 * k) (law.well_formed.counted xs first ok))
 
   pub filled_block : (m : ℕ) (t : Option ℕ) (old : List ℕ) → m ≤ most_members → Within t m → with_block old 0 (map byte (M.values m t)) ≡ filled M m t old
-  filled_block m t old few w = block_start old (map byte (M.values m t)) (M.auxiliaries m) (length_map (M.values m t) byte ∙ law.well_formed.valued m t few w)
+  filled_block m t old few w = block_start old (map byte (M.values m t)) (M.auxiliaries m) (length-map (M.values m t) byte ∙ law.well_formed.valued m t few w)
 
   -- the numbers of a lawful encoder are small
   squared : (m : ℕ) → m ≤ most_members → m * m ≤ 65_536

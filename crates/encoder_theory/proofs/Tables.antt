@@ -1,6 +1,6 @@
 -- A table of values that is put into a buffer byte by byte.
 use Rattle.std.proofs.Common.{◌≡◌, ℕ, ◌+◌, ◌-◌, ◌<◌, ◌≤◌, Bool, false, List, ◌++◌, map, length, get_or, take, drop, set, sym, refl, ap, ◌∙◌, subst, arith}
-use Rattle.std.proofs.lemmas.List.{drop-set-lt, drop-drop, take-append-drop, ext_get_or, length-take-le, length_map, get_or-take, get_or-map}
+use Rattle.std.proofs.lemmas.List.{drop-set-lt, drop-drop, take-append-drop, ext_get_or, length-take-le, length-map, get_or-take, get_or-map}
 use Rattle.std.proofs.lemmas.List.Edits.{fill_by_more}
 use Rattle.std.proofs.lemmas.List.FromFn.{length-map-range_with_len, get_or-map-range_with_len}
 use Rattle.encoder_theory.specs.Each.{table}
@@ -24,7 +24,7 @@ module _ (f : ℕ → Bool) where
   pub table_end : (n : ℕ) (old buf : List ℕ) → n ≤ length buf → TablePut f n old buf → buf ≡ map byte (table n f) ++ drop n old
   table_end n old buf l h =
       let lt = length-take-le n buf l in
-      let lm = length_map (table n f) byte in
+      let lm = length-map (table n f) byte in
       let lc = length-map-range_with_len f 0 n in
       let e : take n buf ≡ map byte (table n f) = ext_get_or 0 (take n buf) (map byte (table n f)) (omega arith) (λ k u.
       let kn : k < n = omega arith in

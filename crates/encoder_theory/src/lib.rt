@@ -1,6 +1,8 @@
 // What an encoder of "at most one of the members is true" means, the laws that each keeps, and what its calls answer:
 // definitions and their proofs. Crate `encoder` has the calls.
 // A function here does nothing: its contract is a theorem of the definitions.
+#![tactic(auto)]
+
 ghost use Rattle.encoder_theory.specs.Theorems.{ExactAdmission, EqualsAlike, LeastBits, Sizes, Lists};
 
 // A call admits members, first number and place exactly where the laws speak of them.

@@ -30,11 +30,11 @@ abbrev pub between : List ℕ → List ℕ → Rel
 between us ws u w = (among us u && among ws w) || (among ws u && among us w)
 
 -- the literals 1 and 2 against 3 and 4, and against 3, 4 and 5, by their indices
-abbrev pub two_by_two : Rel
-two_by_two = between (0 ∷ 2 ∷ []) (4 ∷ 6 ∷ [])
+abbrev pub two_against_two : Rel
+two_against_two = between (0 ∷ 2 ∷ []) (4 ∷ 6 ∷ [])
 
-abbrev pub two_by_three : Rel
-two_by_three = between (0 ∷ 2 ∷ []) (4 ∷ 6 ∷ 8 ∷ [])
+abbrev pub two_against_three : Rel
+two_against_three = between (0 ∷ 2 ∷ []) (4 ∷ 6 ∷ 8 ∷ [])
 
 -- the members 1, 2 and -3
 abbrev pub three : List ℤ
@@ -59,12 +59,12 @@ pub record Examples : Type 0 where
       ≡ (negsuc 0, pos 4) ∷ (negsuc 1, pos 5) ∷ (negsuc 3, pos 5) ∷ (negsuc 1, negsuc 3) ∷ (pos 3, negsuc 4) ∷ []
   pub sequential_values : sequential.values 3 (Some 1) ≡ false ∷ true ∷ []
   -- two literals against two: no gain, so no part, and four clauses
-  pub two_by_two : cover_of 4 two_by_two ≡ record { parts = []; remaining = (pos 1, pos 3) ∷ (pos 1, pos 4) ∷ (pos 2, pos 3) ∷ (pos 2, pos 4) ∷ [] }
-  pub two_by_two_takes : CoverTakes pairwise (cover_of 4 two_by_two) 4 0
+  pub two_by_two : cover_of 4 two_against_two ≡ record { parts = []; remaining = (pos 1, pos 3) ∷ (pos 1, pos 4) ∷ (pos 2, pos 3) ∷ (pos 2, pos 4) ∷ [] }
+  pub two_by_two_takes : CoverTakes pairwise (cover_of 4 two_against_two) 4 0
   -- two against three: one biclique, five clauses and one auxiliary for six conflicts
-  pub two_by_three : cover_of 5 two_by_three ≡ record { parts = biclique (pos 1 ∷ pos 2 ∷ []) (pos 3 ∷ pos 4 ∷ pos 5 ∷ []) ∷ []; remaining = [] }
-  pub two_by_three_takes : CoverTakes pairwise (cover_of 5 two_by_three) 5 1
-  pub two_by_three_written : written_clauses pairwise (cover_of 5 two_by_three) 6
+  pub two_by_three : cover_of 5 two_against_three ≡ record { parts = biclique (pos 1 ∷ pos 2 ∷ []) (pos 3 ∷ pos 4 ∷ pos 5 ∷ []) ∷ []; remaining = [] }
+  pub two_by_three_takes : CoverTakes pairwise (cover_of 5 two_against_three) 5 1
+  pub two_by_three_written : written_clauses pairwise (cover_of 5 two_against_three) 6
       ≡ (negsuc 0, pos 6) ∷ (negsuc 1, pos 6) ∷ (negsuc 5, negsuc 2) ∷ (negsuc 5, negsuc 3) ∷ (negsuc 5, negsuc 4) ∷ []
   -- what the program prints
   pub program : printed (outcome Small (codes "c amo t\np cnf 4 5\n-1 -2 0\n1 2 3 4 0\n-3 -1 0\n-2 -1 0\n3 0\n"))

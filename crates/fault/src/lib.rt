@@ -1,5 +1,7 @@
 // One fault for every layer: which rule refused, which layer found it, and at which byte of a text.
 // It is carried by `?` from the lowest layer up to the program, and shows as `fault number layer place`.
+#![tactic(auto)]
+
 ghost use Rattle.std.specs.Prelude.{◌≡◌, Some};
 ghost use Rattle.fault.specs.Fault.{number_of, layer_name, fault_text};
 

@@ -3,6 +3,8 @@
 // For each file that an argument names it writes many variants that say the same: the pair clauses are dealt out to the
 // feeders, come back in other orders, repeated and turned round, spread over lines and comments; all other clauses keep their order.
 // It runs `compact` on each, and prints whether they all give what the file gives.
+#![tactic(auto)]
+
 mod feeding;
 mod generator;
 mod sheet;

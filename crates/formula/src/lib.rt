@@ -7,6 +7,8 @@
 //   `bytes`    every byte that a completion leaves
 //   `every_run` and `any_other`  the promise of faithfulness: for every list of calls by which the network came, and over two writings
 //   `completes`  that values and bytes together satisfy what is written, for every list of calls by which the network came
+#![tactic(auto)]
+
 mod broken;
 mod checks;
 mod clauses;

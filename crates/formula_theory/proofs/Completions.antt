@@ -94,8 +94,8 @@ module _ (n : ℕ) (calls : List Call) (rel : Rel) (tells : Tells n calls rel) (
       (⊎_elim (λ lt. ordered e p q (a, tp, tq) lt) (λ lt. ordered e q p (is.both_ways p q a, tq, tp) lt))
       (cases_order (index p) (index q))
 
-  first_broken : (c : ℤ × ℤ) → first_broken n rel s ≡ Some c → FirstBroken n calls s c.0 c.1
-  first_broken c e = go (from_some rel s (2 * n) (2 * n) 0 c (omega arith) e)
+  first_broken_is : (c : ℤ × ℤ) → first_broken n rel s ≡ Some c → FirstBroken n calls s c.0 c.1
+  first_broken_is c e = go (from_some rel s (2 * n) (2 * n) 0 c (omega arith) e)
     where
       go : FirstFrom rel s (2 * n) 0 (0 + 2 * n) c → FirstBroken n calls s c.0 c.1
       go (u, w, low, high, uw, wn, t, q, before) =
@@ -209,7 +209,7 @@ module _ (n : ℕ) (calls : List Call) (rel : Rel) (tells : Tells n calls rel) (
   judge false false false false false true o w2 e6 e7 e8 e9 e10 e11 =
       (shared (short_buffer (ltb-true _ _ e10)), at_least 10 (λ l. w2) (λ l. e6) (λ l. e7) (λ l. e8) (λ l. e9) (no (omega arith)) (no (omega arith)))
   judge false false false false false false (Some c) w2 e6 e7 e8 e9 e10 e11 =
-      (breaks c.0 c.1 (first_broken n calls rel tells (assignment_of values) c e11), at_least 11 (λ l. w2) (λ l. e6) (λ l. e7) (λ l. e8) (λ l. e9) (λ l. e10) (no (omega arith)))
+      (breaks c.0 c.1 (first_broken_is n calls rel tells (assignment_of values) c e11), at_least 11 (λ l. w2) (λ l. e6) (λ l. e7) (λ l. e8) (λ l. e9) (λ l. e10) (no (omega arith)))
   judge false false false false false false None w2 e6 e7 e8 e9 e10 e11 = λ k h.
       let a = at_least 12 (λ l. w2) (λ l. e6) (λ l. e7) (λ l. e8) (λ l. e9) (λ l. e10) (λ l. ap is_some e11) k h in
       let b = at_most k h in omega arith

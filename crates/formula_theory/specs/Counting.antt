@@ -33,7 +33,7 @@ pairs_from (P ∷ Ps) pairs = part_pairs P ++ pairs_from Ps pairs
 abbrev pub conflict_list : Cover → List (ℤ × ℤ)
 conflict_list C = pairs_from C.parts C.remaining
 
--- they are the network's conflicts, each once, and conflictCount is their number; there are fewer than pairs of literals
+-- they are the network's conflicts, each once, and conflict_count is their number; there are fewer than pairs of literals
 pub record Counted (n : ℕ) (Clash : ℤ → ℤ → Type 0) (C : Cover) : Type 0 where
   pub exactly : (p q : ℤ) → Clash p q ↔ Remains (conflict_list C) p q
   pub once : Once (conflict_list C)

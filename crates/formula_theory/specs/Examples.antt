@@ -10,19 +10,19 @@ abbrev pub between : List ℕ → List ℕ → Rel
 between us ws u w = (among us u && among ws w) || (among ws u && among us w)
 
 -- the literals 1 and 2 against 3 and 4
-abbrev pub two_by_two : Rel
-two_by_two = between (0 ∷ 2 ∷ []) (4 ∷ 6 ∷ [])
+abbrev pub two_against_two : Rel
+two_against_two = between (0 ∷ 2 ∷ []) (4 ∷ 6 ∷ [])
 
 -- the literals 1 and 2 against 3, 4 and 5
-abbrev pub two_by_three : Rel
-two_by_three = between (0 ∷ 2 ∷ []) (4 ∷ 6 ∷ 8 ∷ [])
+abbrev pub two_against_three : Rel
+two_against_three = between (0 ∷ 2 ∷ []) (4 ∷ 6 ∷ 8 ∷ [])
 
 pub record SmallCovers : Type 0 where
   -- no gain: the four conflicts are written as they are
-  pub two_by_two : (clause_count pairwise (cover_of 4 two_by_two) ≡ 4) × (auxiliary_count pairwise (cover_of 4 two_by_two) ≡ 0)
+  pub two_by_two : (clause_count pairwise (cover_of 4 two_against_two) ≡ 4) × (auxiliary_count pairwise (cover_of 4 two_against_two) ≡ 0)
   -- five clauses and one auxiliary for six conflicts
-  pub two_by_three : (clause_count pairwise (cover_of 5 two_by_three) ≡ 5) × (auxiliary_count pairwise (cover_of 5 two_by_three) ≡ 1)
-  pub clauses : written_clauses pairwise (cover_of 5 two_by_three) 6
+  pub two_by_three : (clause_count pairwise (cover_of 5 two_against_three) ≡ 5) × (auxiliary_count pairwise (cover_of 5 two_against_three) ≡ 1)
+  pub clauses : written_clauses pairwise (cover_of 5 two_against_three) 6
       ≡ (negsuc 0, pos 6) ∷ (negsuc 1, pos 6) ∷ (negsuc 5, negsuc 2) ∷ (negsuc 5, negsuc 3) ∷ (negsuc 5, negsuc 4) ∷ []
 
 -- binary over 7 and 9 members saves nothing, so pairwise is written; over 8 members it does

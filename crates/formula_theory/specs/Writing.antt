@@ -51,7 +51,7 @@ abbrev pub over_parts : (Part ℤ → ℕ) → List (Part ℤ) → ℕ
 over_parts f [] = 0
 over_parts f (P ∷ Ps) = f P + over_parts f Ps
 
--- the number of auxiliaries of a cover: they are the variables from first on, up to first + auxiliaryCount - 1
+-- the number of auxiliaries of a cover: they are the variables from first on, up to first + auxiliary_count - 1
 abbrev pub auxiliary_count : Meaning → Cover → ℕ
 auxiliary_count M C = over_parts (part_auxiliaries M) C.parts
 

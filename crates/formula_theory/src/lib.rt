@@ -1,5 +1,7 @@
 // What is written for a cover of conflicts, and that it says just what the conflicts say: definitions and their proofs.
 // A function here does nothing: its contract is a theorem of the definitions.
+#![tactic(auto)]
+
 ghost use Rattle.formula_theory.specs.Faithful.{WritingIsFaithful, LeadsByClauses, EqualsWriteAlike, AccountBalances};
 ghost use Rattle.formula_theory.specs.Outcome.{MeasureForetells};
 ghost use Rattle.formula_theory.specs.Promise.{CoverPartitions, Faithfulness, Completion};

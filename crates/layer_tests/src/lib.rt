@@ -1,4 +1,6 @@
 // Tests of the layers on examples: sizes at the edges of the grouping rule, k out of range, piles three deep, clauses, values, refusals.
+#![tactic(auto)]
+
 #[cfg(test)]
 mod tests {
     use binary::Binary;

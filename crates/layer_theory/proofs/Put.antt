@@ -1,6 +1,6 @@
 -- What the calls of a layer do to numbers and buffers, group by group.
 use Rattle.std.proofs.Common.{◌≡◌, ℕ, zero, suc, ◌+◌, ◌-◌, ◌*◌, ◌<◌, ◌≤◌, Bool, true, false, cond, List, [], ◌∷◌, ◌++◌, map, length, take, drop, set, ℤ, pos, Option, sym, refl, ap, ◌∙◌, subst, ⊎_elim, append_assoc, suc-mul, mul-le-mul, arith, length-append}
-use Rattle.std.proofs.lemmas.List.{length_map, map-append, take_more_set, length-set}
+use Rattle.std.proofs.lemmas.List.{length-map, map-append, take_more_set, length-set}
 use Rattle.std.proofs.lemmas.List.FromFn.{length-map-range_with_len, map-range_with_len_more}
 use Rattle.std.proofs.lemmas.Bool.{cases_eq, cond-true, cond-false}
 use Rattle.logic.specs.Clause.{Clause, flat}
@@ -124,7 +124,7 @@ name_next first i names x l e h =
 pub command_next : (f : ℕ → Bool) (at i b : ℕ) (old buf : List ℕ) → at + i < length old → b ≡ byte (f i)
     → buf ≡ with_block old at (map byte (table i f)) → set buf (at + i) b ≡ with_block old at (map byte (table (i + 1) f))
 command_next f at i b old buf l e h =
-    let lt : length (map byte (table i f)) ≡ i = length_map (table i f) byte ∙ length-map-range_with_len f 0 i in
+    let lt : length (map byte (table i f)) ≡ i = length-map (table i f) byte ∙ length-map-range_with_len f 0 i in
     let lb = ap length h in
     let w = length_block old (map byte (table i f)) at (omega arith) in
     block_set buf (at + i) b (omega arith)
@@ -144,7 +144,7 @@ module _ (k m n : ℕ) (s : ℕ → ℕ) (r : Formed k m n s) (few : m ≤ most_
 
   length_shown : (i : ℕ) → i ≤ n → length (map byte (each 0 i shown)) ≡ sum i held
   length_shown i l =
-      length_map (each 0 i shown) byte
+      length-map (each 0 i shown) byte
       ∙ length_each_sum shown held i (λ j b.
       let h : j < n = omega arith in
       let w = size_within k m n s r j h in
@@ -176,7 +176,7 @@ lists_join K L old out₁ out₂ at spot room es e₁ e₂ =
 pub values_join : (us vs : List Bool) (old out₁ out₂ : List ℕ) (at spot : ℕ) → at + length us ≤ length old → spot ≡ at + length us
     → out₁ ≡ with_block old at (map byte us) → out₂ ≡ with_block out₁ spot (map byte vs) → out₂ ≡ with_block old at (map byte (us ++ vs))
 values_join us vs old out₁ out₂ at spot room es e₁ e₂ =
-    let l = length_map us byte in
+    let l = length-map us byte in
     e₂ ∙ ap (λ b. with_block b spot (map byte vs)) e₁ ∙ block_more old (map byte us) (map byte vs) at spot (omega arith) (omega arith)
     ∙ ap (with_block old at) (sym (map-append byte us vs))
 
@@ -309,7 +309,7 @@ module _ (k : ℕ) (k2 : 2 ≤ k) (m : ℕ) (few : m ≤ most_members) (G T M : 
         let e = auxiliaries_are k m G T M agree w in
         let l = ap T.auxiliaries eq in
         let b = length_below_values in
-        let c = length_map below_values byte in
+        let c = length-map below_values byte in
         let z = ap length e₁ in
         let f = length_block old (map byte below_values) at (omega arith) in
         omega arith

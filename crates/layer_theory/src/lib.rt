@@ -1,6 +1,8 @@
 // Layers of encoders: the rule that forms groups, the commander over any two encoders, the tower over itself.
 // Definitions and their proofs; crate `layers` has the calls.
 // A function here does nothing: its contract is a theorem of the definitions.
+#![tactic(auto)]
+
 ghost use Rattle.encoder_theory.specs.Laws.{Lawful};
 ghost use Rattle.layer_theory.specs.Tower.{tower};
 ghost use Rattle.layer_theory.specs.Theorems.{RuleForms, PlacesLie, CommanderLawful, TowerBuilt, Sizes};

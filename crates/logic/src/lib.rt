@@ -1,5 +1,7 @@
 // What every layer speaks of: literals and their index, clauses of two, assignments, chains.
 // Definitions and their laws, and the two functions that go between a literal and its index.
+#![tactic(auto)]
+
 ghost use Rattle.std.specs.Prelude.{◌≡◌, ◌-◌, ◌*◌, ◌^◌, if◌then◌else◌, Some, None, nat_lt};
 ghost use Rattle.logic.specs.Literal.{is_literal, index, literal};
 ghost use Rattle.logic.specs.Gluing.{Gluing};

@@ -5,6 +5,8 @@
 //   `lent`     that this network lies in the words lent, and in no others
 //   `came`     by which calls, since the opening, a network came to be as it is
 //   `exact`    the law: exactly the conflicts stand that those calls made accepted
+#![tactic(auto)]
+
 mod matrix;
 
 ghost use Rattle.std.specs.Prelude.{◌≡◌, ◌≤◌, List, [], ◌∷◌, ◌++◌, length, is_ok, Decides};

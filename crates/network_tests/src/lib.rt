@@ -1,4 +1,6 @@
 // Tests of the network at its edges, and a caller whose own loop gets the law from the contracts of the calls alone.
+#![tactic(auto)]
+
 ghost use Rattle.network_theory.specs.Runs.{Exact};
 ghost use Rattle.network.specs.Views.{net_of};
 ghost use Rattle.network_tests.specs.Asked.{asked};

@@ -1,5 +1,6 @@
 // The theory of the network of conflicts: how conflicts lie in words, what each call answers and leaves,
 // which conflicts a list of calls makes accepted, and the proofs that these agree.
+#![tactic(auto)]
 
 // A call on an open network.
 #[derive(Clone, Copy)]

@@ -1,4 +1,6 @@
 // Pairwise: every two members exclude each other. No auxiliaries.
+#![tactic(auto)]
+
 ghost use Rattle.std.specs.Prelude.{◌≡◌, ℕ, ◌*◌, ◌<◌, ◌≤◌, length};
 ghost use Rattle.logic.specs.Literal.{variable};
 ghost use Rattle.logic.specs.Clause.{against};

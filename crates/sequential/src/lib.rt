@@ -1,4 +1,6 @@
 // Sequential: the auxiliary at i says that a member up to i is true. Nothing below two members.
+#![tactic(auto)]
+
 ghost use Rattle.std.specs.Prelude.{◌≡◌, ◌+◌, ◌-◌, ◌*◌, ◌<◌, ◌≤◌, length};
 ghost use Rattle.logic.specs.Literal.{variable};
 ghost use Rattle.logic.specs.Clause.{against};

@@ -1,4 +1,6 @@
 // Texts and what comes of them, numbers and what is written of them.
+#![tactic(auto)]
+
 #[cfg(test)]
 mod reading;
 #[cfg(test)]

@@ -1,6 +1,6 @@
 -- Completing: the values of one part after another, and from a cover that stands to what is answered and left.
 use Rattle.std.proofs.Common.{◌≡◌, ℕ, ◌+◌, ◌-◌, ◌*◌, ◌<◌, ◌≤◌, Bool, true, false, cond, ltb, List, [], ◌∷◌, ◌++◌, map, length, take, drop, set, ℤ, pos, is_some, Some, None, Ok, Err, Option, Result, sym, refl, ap, ◌∙◌, subst, arith, length-append}
-use Rattle.std.proofs.lemmas.List.{append-nil, length_map, map-append}
+use Rattle.std.proofs.lemmas.List.{append-nil, length-map, map-append}
 use Rattle.std.proofs.lemmas.Bool.{ltb-false}
 use Rattle.std.specs.Option.{option_map}
 use Rattle.fault.specs.declared.Fault.{Fault}
@@ -73,7 +73,7 @@ module _ (n : ℕ) (M : Meaning) (law : Lawful M) (Ps : List (Part ℤ)) (xs : L
 
   length_done : (done rest : List (Part ℤ)) → Ps ≡ done ++ rest → length (map byte (values_from M s done)) ≡ over_parts (part_auxiliaries M) done
   length_done done rest e =
-      length_map (values_from M s done) byte
+      length-map (values_from M s done) byte
       ∙ length_values M law n s done (λ P h. ok.listed.sound P (subst (λ Qs. In P Qs) (sym e) (in_front done rest P h)))
 
   module _ (at spot : ℕ) (out : List ℕ) (l : at < length xs) (w : Walked Ps xs at (ValuesSoFar M s old spot out))
@@ -227,5 +227,5 @@ module _ (n : ℕ) (rel : Rel) (M : Meaning) (law : Lawful M) (C : Cover) (numbe
     pub complete_put : (new : List ℕ) → new ≡ with_block out 0 (map byte (values_from M (assignment_of values) C.parts)) → new ≡ completed_leaves n rel M C numbers values out
     complete_put new h =
         let vs = auxiliary_values M C (assignment_of values) in
-        h ∙ block_start out (map byte vs) (auxiliary_count M C) (length_map vs byte ∙ length_values M law n (assignment_of values) C.parts ok.sound)
+        h ∙ block_start out (map byte vs) (auxiliary_count M C) (length-map vs byte ∙ length_values M law n (assignment_of values) C.parts ok.sound)
         ∙ sym (ap (λ o. kept_if_refused o (put_values M C (assignment_of values) out) out) none)

@@ -1,6 +1,6 @@
 -- Putting the clauses of parts into a buffer, one part after another.
 use Rattle.std.proofs.Common.{◌≡◌, ℕ, zero, suc, ◌+◌, ◌-◌, ◌*◌, ◌<◌, ◌≤◌, List, [], ◌∷◌, ◌++◌, map, length, get_or, take, drop, ℤ, pos, sym, refl, ap, ◌∙◌, subst, inl, inr, append_assoc, arith, length-append}
-use Rattle.std.proofs.lemmas.List.{append-nil, length-drop, length_map, drop_at, drop-drop, take_at, take_more, map_push, take_all, length-take-le}
+use Rattle.std.proofs.lemmas.List.{append-nil, length-drop, length-map, drop_at, drop-drop, take_at, take_more, map_push, take_all, length-take-le}
 use Rattle.logic.specs.Literal.{variable, Literal}
 use Rattle.logic.specs.Clause.{In, Clause, flat}
 use Rattle.logic.proofs.Clauses.{length_flat, flat_append}
@@ -27,7 +27,7 @@ pub each_step : (f : ℤ → Clause) (xs : List ℤ) (i at : ℕ) (old buf : Lis
 each_step f xs i at old buf l room e =
     let B = flat (map f (take i xs)) in
     let c = f (get_or xs i (pos 0)) in
-    let n : length B ≡ 2 * i = length_flat (map f (take i xs)) ∙ ap (λ k. 2 * k) (length_map (take i xs) f ∙ length-take-le i xs (omega arith)) in
+    let n : length B ≡ 2 * i = length_flat (map f (take i xs)) ∙ ap (λ k. 2 * k) (length-map (take i xs) f ∙ length-take-le i xs (omega arith)) in
     let lb : length buf ≡ length old = ap length e ∙ length_block old B at (omega arith) in
     let g : flat (map f (take (i + 1) xs)) ≡ B ++ flat (c ∷ []) =
     ap (λ ys. flat (map f ys)) (take_more xs i (pos 0) l) ∙ ap flat (map_push f (take i xs) (get_or xs i (pos 0))) ∙ flat_append (map f (take i xs)) (c ∷ []) in
@@ -183,7 +183,7 @@ module _ (n : ℕ) (M : Meaning) (law : Lawful M) (Ps : List (Part ℤ)) (xs : L
 pub sides_put : (f g : ℤ → Clause) (ls rs : List ℤ) (at : ℕ) (old mid new : List ℤ) → at + 2 * (length ls + length rs) ≤ length old
     → mid ≡ with_block old at (flat (map f ls)) → new ≡ with_block mid (at + 2 * length ls) (flat (map g rs)) → new ≡ with_block old at (flat (map f ls ++ map g rs))
 sides_put f g ls rs at old mid new room e h =
-    let n : length (flat (map f ls)) ≡ 2 * length ls = length_flat (map f ls) ∙ ap (λ k. 2 * k) (length_map ls f) in
+    let n : length (flat (map f ls)) ≡ 2 * length ls = length_flat (map f ls) ∙ ap (λ k. 2 * k) (length-map ls f) in
     h ∙ ap (λ ys. with_block ys (at + 2 * length ls) (flat (map g rs))) e
     ∙ block_more old (flat (map f ls)) (flat (map g rs)) at (at + 2 * length ls) (omega arith) (omega arith)
     ∙ ap (with_block old at) (sym (flat_append (map f ls) (map g rs)))

@@ -1,6 +1,6 @@
 -- Writing the conflicts that remain: row after row, conflict after conflict.
 use Rattle.std.proofs.Common.{◌≡◌, ℕ, zero, suc, ◌+◌, ◌-◌, ◌*◌, ◌<◌, ◌≤◌, Bool, true, false, cond, ◌&&◌, ltb, ◌⊎◌, List, [], ◌∷◌, ◌++◌, map, length, take, drop, ℤ, pos, sym, refl, ap, ◌∙◌, subst, inl, inr, ⊎_elim, append_assoc, add-one, arith, length-append}
-use Rattle.std.proofs.lemmas.List.{append-nil, length_map, length-take-le, length-drop, drop-drop, take_at, drop_at, take-append-drop, map-append}
+use Rattle.std.proofs.lemmas.List.{append-nil, length-map, length-take-le, length-drop, drop-drop, take_at, drop_at, take-append-drop, map-append}
 use Rattle.std.proofs.lemmas.Bool.{cond-true, cond-false, cases_eq, cases_lt, lt-ltb}
 use Rattle.logic.specs.Literal.{literal}
 use Rattle.logic.specs.Clause.{Clause, against, flat}
@@ -144,7 +144,7 @@ module _ (N : ℕ) (rel : Rel) where
   all = conflict_clauses (pairs_from N rel N 0)
 
   length_all : length (flat all) ≡ 2 * length (pairs_from N rel N 0)
-  length_all = length_flat all ∙ ap (λ k. 2 * k) (length_map (pairs_from N rel N 0) (λ c. against c.0 c.1))
+  length_all = length_flat all ∙ ap (λ k. 2 * k) (length-map (pairs_from N rel N 0) (λ c. against c.0 c.1))
 
   pub rows_begun : (old : List ℤ) (at : ℕ) → at + 2 * length (pairs_from N rel N 0) ≤ length old → Partway (take at old ++ flat all) (flat (rows 0)) old old at
   rows_begun old at room =

@@ -17,12 +17,12 @@ use Rattle.compaction_theory.proofs.Counting.{ok_account, err_account}
 use Rattle.compaction_theory.proofs.Taken.{err_outcome, ok_outcome, taken_read}
 use Rattle.compaction.proofs.compact_into.Goals as goal
 
-pub compact-numbers-requires : goal.compact-numbers-requires
-compact-numbers-requires c =
+pub compact_numbers-requires : goal.compact_numbers-requires
+compact_numbers-requires c =
     let scale = c.args.scale in
     let text : List ℕ = c.args.text.now in
     let s : Summary = c.in-Ok.found in
-    let after : List ℤ = c.read-within.new.numbers in
+    let after : List ℤ = c.read_within.new.numbers in
     let short : ltb (most_bytes scale) (length text) ≡ false = le-ltb _ _ c.requires.0 in
     let wide : length c.args.numbers.now ≡ number_room scale (length text) = ap length c.requires.1 ∙ length-replicate (number_room scale (length text)) (pos 0) in
     let all : s.numbers - 0 ≡ s.numbers = omega arith in
@@ -37,7 +37,7 @@ returns-in-Ok c =
     let scale = c.args.scale in
     let text : List ℕ = c.args.text.now in
     let s : Summary = c.in-Ok.found in
-    let after : List ℤ = c.read-within.new.numbers in
+    let after : List ℤ = c.read_within.new.numbers in
     let short : ltb (most_bytes scale) (length text) ≡ false = le-ltb _ _ c.requires.0 in
     let all : s.numbers - 0 ≡ s.numbers = omega arith in
     let same : reading text c.args.numbers.now ≡ reading text (blank scale text) = ap (reading text) c.requires.1 in
@@ -48,18 +48,18 @@ returns-in-Ok c =
     let read : clauses_in (take (s.numbers - 0) after) ≡ clauses_in (take s.numbers (reading text (blank scale text)).list) =
     ap (λ k. clauses_in (take k after)) all ∙ ap (λ (l : List ℤ). clauses_in (take s.numbers l)) list in
     record {
-      prints = IfOk-weaker c.compact-numbers.result _ _
+      prints = IfOk-weaker c.compact_numbers.result _ _
           (λ p e. e
-          ∙ ap (λ (x : Choice). compacted_text (meaning_of x) n (clauses_in (take (s.numbers - 0) after))) c.choice-of.ensures
+          ∙ ap (λ (x : Choice). compacted_text (meaning_of x) n (clauses_in (take (s.numbers - 0) after))) c.choice_of.ensures
           ∙ ap (compacted_text (meaning_of (choice_of (first_line text))) n) read
           ∙ ap printed (sym ok))
-          c.compact-numbers.ensures.bytes;
-      account = IfOk-weaker c.compact-numbers.result _ _
+          c.compact_numbers.ensures.bytes;
+      account = IfOk-weaker c.compact_numbers.result _ _
           (λ p e. e
-          ∙ ap (λ (x : Choice). Some (account_of (meaning_of x) n (clauses_in (take (s.numbers - 0) after)))) c.choice-of.ensures
+          ∙ ap (λ (x : Choice). Some (account_of (meaning_of x) n (clauses_in (take (s.numbers - 0) after)))) c.choice_of.ensures
           ∙ ap (λ (cs : List (List ℤ)). Some (account_of (meaning_of (choice_of (first_line text))) n cs)) read
           ∙ sym told)
-          c.compact-numbers.ensures.account;
+          c.compact_numbers.ensures.account;
     }
 
 pub returns-in-Err : goal.returns-in-Err
@@ -71,6 +71,6 @@ returns-in-Err c =
     let bad = err_outcome scale text c.in-Err.fault short (c.in-Err.ensures.answer ∙ ap (λ (x : Reading). read_within scale x.answer) same) in
     let told = err_account scale text c.in-Err.fault short (c.in-Err.ensures.answer ∙ ap (λ (x : Reading). read_within scale x.answer) same) in
     record {
-      prints = IfOk-weaker c.fault-line.result _ _ (λ p e. e ∙ ap printed (sym bad)) c.fault-line.ensures.bytes;
-      account = IfOk-weaker c.fault-line.result _ _ (λ p e. e ∙ sym told) c.fault-line.ensures.account;
+      prints = IfOk-weaker c.fault_line.result _ _ (λ p e. e ∙ ap printed (sym bad)) c.fault_line.ensures.bytes;
+      account = IfOk-weaker c.fault_line.result _ _ (λ p e. e ∙ sym told) c.fault_line.ensures.account;
     }

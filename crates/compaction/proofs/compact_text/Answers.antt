@@ -1,8 +1,8 @@
 use Rattle.std.proofs.Common.{◌≡◌, replicate, pos, ap, ◌∙◌, rules}
 use Rattle.compaction.proofs.compact_text.Goals as goal
 
-pub compact-into-requires : goal.compact-into-requires
-compact-into-requires c = (
+pub compact_into-requires : goal.compact_into-requires
+compact_into-requires c = (
   c.requires,
-  c.as-mut-slice.ensures.value ∙ c.in-ok-numbers.ensures.items-if-clones-equal (λ y h. search rules) ∙ ap (λ k. replicate k (pos 0)) c.number-room.ensures,
+  c.as_mut_slice.ensures.value ∙ c.in_ok-numbers.ensures.items_if_clones_equal (λ y h. search rules) ∙ ap (λ k. replicate k (pos 0)) c.number_room.ensures,
 )

@@ -18,12 +18,12 @@ returns-in-Ok c =
     let scale = c.args.scale in
     let text : List ℕ = c.args.text.now in
     record {
-      prints = c.compact-text.ensures.prints;
-      compacts = IfOk-weaker c.compact-text.result _ _ (λ v e. subst (CompactsFile scale text) (sym e) (every_file_compacted scale text)) c.compact-text.ensures.prints;
-      alike = IfOk-weaker c.compact-text.result _ _ (λ v e. subst (PrintsAlike scale text) (sym e) (same_files_print_alike scale text)) c.compact-text.ensures.prints;
+      prints = c.compact_text.ensures.prints;
+      compacts = IfOk-weaker c.compact_text.result _ _ (λ v e. subst (CompactsFile scale text) (sym e) (every_file_compacted scale text)) c.compact_text.ensures.prints;
+      alike = IfOk-weaker c.compact_text.result _ _ (λ v e. subst (PrintsAlike scale text) (sym e) (same_files_print_alike scale text)) c.compact_text.ensures.prints;
       decided = every_input_decided scale text;
       never_short = never_short;
-      account = c.compact-text.ensures.account;
+      account = c.compact_text.ensures.account;
     }
 
 pub returns-in-Err : goal.returns-in-Err
@@ -34,10 +34,10 @@ returns-in-Err c =
     let p : fault_text c.in-Err.fault ++ 10 ∷ [] ≡ printed (outcome scale text) =
     ap (λ (f : Fault). fault_text f ++ 10 ∷ []) e.1 ∙ ap printed (sym (long_outcome scale text e.0)) in
     record {
-      prints = IfOk-weaker c.fault-line.result _ _ (λ v h. h ∙ p) c.fault-line.ensures.bytes;
-      compacts = IfOk-weaker c.fault-line.result _ _ (λ v h. subst (CompactsFile scale text) (sym (h ∙ p)) (every_file_compacted scale text)) c.fault-line.ensures.bytes;
-      alike = IfOk-weaker c.fault-line.result _ _ (λ v h. subst (PrintsAlike scale text) (sym (h ∙ p)) (same_files_print_alike scale text)) c.fault-line.ensures.bytes;
+      prints = IfOk-weaker c.fault_line.result _ _ (λ v h. h ∙ p) c.fault_line.ensures.bytes;
+      compacts = IfOk-weaker c.fault_line.result _ _ (λ v h. subst (CompactsFile scale text) (sym (h ∙ p)) (every_file_compacted scale text)) c.fault_line.ensures.bytes;
+      alike = IfOk-weaker c.fault_line.result _ _ (λ v h. subst (PrintsAlike scale text) (sym (h ∙ p)) (same_files_print_alike scale text)) c.fault_line.ensures.bytes;
       decided = every_input_decided scale text;
       never_short = never_short;
-      account = IfOk-weaker c.fault-line.result _ _ (λ p h. h ∙ sym (long_account scale text e.0)) c.fault-line.ensures.account;
+      account = IfOk-weaker c.fault_line.result _ _ (λ p h. h ∙ sym (long_account scale text e.0)) c.fault_line.ensures.account;
     }

@@ -19,7 +19,7 @@ loop-part-init c = (omega arith, omega arith, λ Ps z s q. walk_begins c.args.li
 
 pub returns : goal.returns
 returns c =
-    let n = sym c.in-default.ensures in
+    let n = sym c.in_default.ensures in
     let k = count_ends c.args.list.now c.loop-part.at c.loop-part.cliques c.loop-part.bicliques c.loop-part.invariant.3 n in
     record {
       value = cc;

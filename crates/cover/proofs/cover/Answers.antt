@@ -8,8 +8,8 @@ use Rattle.cover_theory.proofs.Nets.{net_partition, net_within, net_alone}
 use Rattle.cover.specs.Outcome.{net_in, conflicts_of, cover_answer, work_after, list_after}
 use Rattle.cover.proofs.cover.Goals as goal
 
-pub cover-words-requires : goal.cover-words-requires
-cover-words-requires c =
+pub cover_words-requires : goal.cover_words-requires
+cover_words-requires c =
     let net = c.args.net.now in
     let e : net_of net.matrix ≡ net_in c.variables.result c.words.result.now = λ i. record { variables = sym c.variables.ensures i; words = sym c.words.ensures i } in
     record {
@@ -22,9 +22,9 @@ returns c =
     let net = c.args.net.now in
     let e : net_in c.variables.result c.words.result.now ≡ net_of net.matrix = λ i. record { variables = c.variables.ensures i; words = c.words.ensures i } in
     record {
-      answer = c.cover-words.ensures.answer ∙ ap (λ (X : Net). cover_answer X (length c.args.work.now) (length c.args.list.now)) e;
-      words = c.cover-words.ensures.words ∙ ap (λ (X : Net). work_after X c.args.work.now (length c.args.list.now)) e;
-      list = c.cover-words.ensures.list ∙ ap (λ (X : Net). list_after X (length c.args.work.now) c.args.list.now) e;
+      answer = c.cover_words.ensures.answer ∙ ap (λ (X : Net). cover_answer X (length c.args.work.now) (length c.args.list.now)) e;
+      words = c.cover_words.ensures.words ∙ ap (λ (X : Net). work_after X c.args.work.now (length c.args.list.now)) e;
+      list = c.cover_words.ensures.list ∙ ap (λ (X : Net). list_after X (length c.args.work.now) c.args.list.now) e;
       partition = net_partition net.matrix.variables net.matrix.words.now net.mutual net.apart;
       within = net_within net.matrix.variables net.matrix.words.now net.mutual net.apart;
       ended = (covering_ends (2 * net.matrix.variables) (conflicts_of (net_of net.matrix)), grown_settles);

@@ -8,8 +8,8 @@ use Rattle.pairwise.proofs.put_pairs.Goals as goal
 pub loop-i-init : goal.loop-i-init
 loop-i-init c = let e = pair_grid_length c.args.members.now in rows_begin (pair_grid c.args.members.now) c.args.out.now (omega (arith, c.requires.room))
 
-pub overflow-add-at : goal.overflow-add-at
-overflow-add-at c =
+pub overflow_add-at : goal.overflow_add-at
+overflow_add-at c =
     let G = pair_grid c.args.members.now in
     let old = c.args.out.now in
     let r = cell_room G c.loop-i.i c.loop-j.j old c.loop-j.out c.loop-j.at c.loop-j-test.true
@@ -20,8 +20,8 @@ pub loop-j-preserved : goal.loop-j-preserved
 loop-j-preserved c = λ old h.
     let xs = c.args.members.now in
     let e : c.exclusion.result ≡ against (member xs c.loop-i.i) (member xs c.loop-j.j) = search rules in
-    cell_put (pair_grid xs) c.loop-i.i c.loop-j.j old c.loop-j.out c.put-clause.new.out c.loop-j.at c.exclusion.result c.loop-j-test.true e
-    c.put-clause.ensures (c.loop-j.invariant old h)
+    cell_put (pair_grid xs) c.loop-i.i c.loop-j.j old c.loop-j.out c.put_clause.new.out c.loop-j.at c.exclusion.result c.loop-j-test.true e
+    c.put_clause.ensures (c.loop-j.invariant old h)
 
 pub loop-i-preserved : goal.loop-i-preserved
 loop-i-preserved c =

@@ -5,17 +5,17 @@ use Rattle.encoder_theory.specs.Binary.{binary}
 use Rattle.encoder_theory.proofs.Answered.{write_declined, write_granted}
 use Rattle.binary.proofs.BinaryEncoder.write.Goals as goal
 
-pub returns-in-err-first : goal.returns-in-err-first
-returns-in-err-first c =
+pub returns-in_err-first : goal.returns-in_err-first
+returns-in_err-first c =
     let f : SFits w32 c.args.first = c.ranges.first in
-    let p = err_from_is_err_and c.from-residual-in-err-first.result c.from-residual-in-err-first.ensures.1 in
-    let g = write_declined binary c.args.members.now c.args.first c.args.out.now c.in-ok-clauses.clauses c.in-ok-auxiliaries.auxiliaries
-    c.in-ok-clauses.ensures c.in-ok-auxiliaries.ensures c.in-err-first.field-0.0 (simp to_z-of_z at c.in-err-first.ensures) in
+    let p = err_from_is_err_and c.from_residual-in_err-first.result c.from_residual-in_err-first.ensures.1 in
+    let g = write_declined binary c.args.members.now c.args.first c.args.out.now c.in_ok-clauses.clauses c.in_ok-auxiliaries.auxiliaries
+    c.in_ok-clauses.ensures c.in_ok-auxiliaries.ensures c.in_err-first.field-0.0 (simp to_z-of_z at c.in_err-first.ensures) in
     record { answers = p.1 ∙ ap Err p.2 ∙ g.0; leaves = g.1 }
 
-pub put-codes-requires : goal.put-codes-requires
-put-codes-requires c =
+pub put_codes-requires : goal.put_codes-requires
+put_codes-requires c =
     let f : SFits w32 c.args.first = c.ranges.first in
-    let g = write_granted binary c.args.members.now c.args.first c.args.out.now c.in-ok-clauses.clauses c.in-ok-auxiliaries.auxiliaries
-    c.in-ok-clauses.ensures c.in-ok-auxiliaries.ensures c.in-ok-first.first (simp to_z-of_z at c.in-ok-first.ensures) in
+    let g = write_granted binary c.args.members.now c.args.first c.args.out.now c.in_ok-clauses.clauses c.in_ok-auxiliaries.auxiliaries
+    c.in_ok-clauses.ensures c.in_ok-auxiliaries.ensures c.in_ok-first.first (simp to_z-of_z at c.in_ok-first.ensures) in
     record { admits = g.0; room = g.1 }

@@ -8,6 +8,6 @@ use Rattle.compaction.proofs.output.assemble.Goals as goal
 pub returns : goal.returns
 returns c W rest count w =
     let others : List (List ℤ) = others_of (clauses_in c.args.numbers.now) in
-    c.in-ok-copy-others.ensures
-    ∙ ap (λ (l : List ℤ). l ++ numbers others) (c.in-ok-copy-written.ensures W rest count w ∙ ap (λ (l : List ℤ). l ++ numbers (map literals_of W)) c.new-out.ensures.items)
+    c.in_ok-copy_others.ensures
+    ∙ ap (λ (l : List ℤ). l ++ numbers others) (c.in_ok-copy_written.ensures W rest count w ∙ ap (λ (l : List ℤ). l ++ numbers (map literals_of W)) c.new-out.ensures.items)
     ∙ sym (numbers_append (map literals_of W) others)

@@ -14,7 +14,7 @@ loop-i-preserved c W rest count w =
     let less : i < length W = omega (arith, c.loop-i-test.true) in
     let fits-x : SFits w32 (get_or written (2 * i) (pos 0)) = search rules in
     let fits-y : SFits w32 (get_or written (2 * i + 1) (pos 0)) = search rules in
-    simp to_z-of_z at c.in-ok-push-clause.ensures
+    simp to_z-of_z at c.in_ok-push_clause.ensures
     ∙ clause_more (vec_items c.args.out.now) (vec_items c.loop-i.out) W rest written i less w (c.loop-i.invariant W rest count w)
 
 pub returns : goal.returns

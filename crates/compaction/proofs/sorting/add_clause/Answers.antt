@@ -18,7 +18,7 @@ returns-in-Some c =
     record {
       count =
           let told : c.add.result ≡ add_answer (net_of c.args.net.now.matrix) c.in-Some.a c.in-Some.b = simp to_z-of_z at c.add.ensures.answer in
-          c.count-new.ensures ∙ ap new_by told ∙ ap (new_to (net_of c.args.net.now.matrix)) c.in-Some.ensures;
+          c.count_new.ensures ∙ ap new_by told ∙ ap (new_to (net_of c.args.net.now.matrix)) c.in-Some.ensures;
       variables = ap (λ (x : Net). x.variables) c.add.ensures.network;
       came = λ calls h.
           let one : Came net (calls ++ Add c.in-Some.a c.in-Some.b ∷ []) = simp to_z-of_z at (c.add.ensures.came calls h) in

@@ -11,8 +11,8 @@ use Rattle.compaction_theory.proofs.Walks.{small_between, walked_more, clauses_m
 use Rattle.compaction_theory.proofs.Counting.{new_few, count_more}
 use Rattle.compaction.proofs.sorting.add_conflicts.Goals as goal
 
-pub add-clause-count-requires : goal.add-clause-count-requires
-add-clause-count-requires c =
+pub add_clause-count-requires : goal.add_clause-count-requires
+add_clause-count-requires c =
     let w = c.in-Some.ensures.within in
     small_between c.args.numbers.now c.loop-end.at c.in-Some.end (omega arith) c.requires
 
@@ -23,26 +23,26 @@ loop-end-preserved c =
     let end : ℕ = c.in-Some.end in
     let walk = c.loop-end.invariant.0 in
     let closing = c.in-Some.ensures in
-    let net : Net = net_of c.add-clause-count.new.net.matrix in
+    let net : Net = net_of c.add_clause-count.new.net.matrix in
     let all : asked (clauses_in (take at xs)) ++ asked (between xs at end ∷ []) ≡ asked (clauses_in (take (end + 1) xs)) =
     sym (ap asked (clauses_more xs at end walk closing) ∙ asked_more (clauses_in (take at xs)) (between xs at end)) in (
       walked_more xs at end walk closing,
-      c.add-clause-count.ensures.variables ∙ c.loop-end.invariant.1,
+      c.add_clause-count.ensures.variables ∙ c.loop-end.invariant.1,
       λ calls h.
           subst (λ (more : List Call). Came net (calls ++ more)) all
           (subst (Came net) (append_assoc calls (asked (clauses_in (take at xs))) (asked (between xs at end ∷ [])))
-          (c.add-clause-count.ensures.came (calls ++ asked (clauses_in (take at xs))) (c.loop-end.invariant.2 calls h))),
-      (let few = new_few (net_of c.loop-end.net.matrix) (conflict_of (between xs at end)) in omega (arith, c.add-clause-count.ensures.count, closing.from, c.loop-end.invariant.3)),
+          (c.add_clause-count.ensures.came (calls ++ asked (clauses_in (take at xs))) (c.loop-end.invariant.2 calls h))),
+      (let few = new_few (net_of c.loop-end.net.matrix) (conflict_of (between xs at end)) in omega (arith, c.add_clause-count.ensures.count, closing.from, c.loop-end.invariant.3)),
       λ n e h l.
           let more = count_more n xs at end walk closing l (net_of c.loop-end.net.matrix) (c.loop-end.invariant.1 ∙ e) (c.loop-end.invariant.2 [] h) in
-          ap (λ k. c.loop-end.count + k) c.add-clause-count.ensures.count ∙ ap (λ k. k + new_to (net_of c.loop-end.net.matrix) (conflict_of (between xs at end))) (c.loop-end.invariant.4 n e h l) ∙ sym more,
+          ap (λ k. c.loop-end.count + k) c.add_clause-count.ensures.count ∙ ap (λ k. k + new_to (net_of c.loop-end.net.matrix) (conflict_of (between xs at end))) (c.loop-end.invariant.4 n e h l) ∙ sym more,
     )
 
 pub returns : goal.returns
 returns c =
     let xs : List ℤ = c.args.numbers.now in
     let at : ℕ = c.loop-end.at in
-    let over = walked_over xs at c.loop-end.invariant.0 c.in-default.ensures in
+    let over = walked_over xs at c.loop-end.invariant.0 c.in_default.ensures in
     record {
       count = λ n e h l. c.loop-end.invariant.4 n e h l ∙ ap (λ (cs : List (List ℤ)). differing (conflicts_of cs)) over;
       variables = c.loop-end.invariant.1;

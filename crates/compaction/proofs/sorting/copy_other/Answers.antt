@@ -3,12 +3,12 @@ use Rattle.dimacs.specs.Clauses.{numbers}
 use Rattle.compaction_theory.specs.Sorted.{conflict_of}
 use Rattle.compaction.proofs.sorting.copy_other.Goals as goal
 
-pub returns-in-ok-push : goal.returns-in-ok-push
-returns-in-ok-push c =
-    let other : is_some (conflict_of c.args.clause.now) ≡ false = ap is_some (sym c.conflict-of.ensures) ∙ c.if-is-none.ensures in
+pub returns-in_ok-push : goal.returns-in_ok-push
+returns-in_ok-push c =
+    let other : is_some (conflict_of c.args.clause.now) ≡ false = ap is_some (sym c.conflict_of.ensures) ∙ c.if-is_none.ensures in
     let old : List ℤ = vec_items c.args.out.now in
     let clause : List ℤ = c.args.clause.now in
-    c.in-ok-push.ensures.items
-    ∙ ap (λ l. l ++ pos 0 ∷ []) c.in-ok-extend-from-slice.ensures.items
+    c.in_ok-push.ensures.items
+    ∙ ap (λ l. l ++ pos 0 ∷ []) c.in_ok-extend_from_slice.ensures.items
     ∙ append_assoc old clause (pos 0 ∷ [])
     ∙ ap (λ (b : Bool). old ++ numbers (cond b [] (clause ∷ []))) (sym other)

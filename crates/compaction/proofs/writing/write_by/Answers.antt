@@ -18,33 +18,33 @@ pub returns-in-Pairwise : goal.returns-in-Pairwise
 returns-in-Pairwise c =
     let fits : SFits w32 c.args.first = c.ranges.first in
     let P : Meaning → Type 0 = λ M.
-    WroteNet (net_of c.args.net.now.matrix) M c.args.first (length c.args.work.now) c.args.list.now c.write-with.new.list c.args.out.now c.write-with.new.out c.write-with.result in
-    picked P c.args.choice Choice.Pairwise c.in-Pairwise.is (simp to_z-of_z at c.write-with.ensures)
+    WroteNet (net_of c.args.net.now.matrix) M c.args.first (length c.args.work.now) c.args.list.now c.write_with.new.list c.args.out.now c.write_with.new.out c.write_with.result in
+    picked P c.args.choice Choice.Pairwise c.in-Pairwise.is (simp to_z-of_z at c.write_with.ensures)
 
 pub returns-in-Binary : goal.returns-in-Binary
 returns-in-Binary c =
     let fits : SFits w32 c.args.first = c.ranges.first in
     let P : Meaning → Type 0 = λ M.
-    WroteNet (net_of c.args.net.now.matrix) M c.args.first (length c.args.work.now) c.args.list.now c.write-with-in-Binary.new.list c.args.out.now c.write-with-in-Binary.new.out c.write-with-in-Binary.result in
-    picked P c.args.choice Choice.Binary c.in-Binary.is (simp to_z-of_z at c.write-with-in-Binary.ensures)
+    WroteNet (net_of c.args.net.now.matrix) M c.args.first (length c.args.work.now) c.args.list.now c.write_with-in-Binary.new.list c.args.out.now c.write_with-in-Binary.new.out c.write_with-in-Binary.result in
+    picked P c.args.choice Choice.Binary c.in-Binary.is (simp to_z-of_z at c.write_with-in-Binary.ensures)
 
 pub returns-in-Sequential : goal.returns-in-Sequential
 returns-in-Sequential c =
     let fits : SFits w32 c.args.first = c.ranges.first in
     let P : Meaning → Type 0 = λ M.
-    WroteNet (net_of c.args.net.now.matrix) M c.args.first (length c.args.work.now) c.args.list.now c.write-with-in-Sequential.new.list c.args.out.now c.write-with-in-Sequential.new.out c.write-with-in-Sequential.result in
-    picked P c.args.choice Choice.Sequential c.in-Sequential.is (simp to_z-of_z at c.write-with-in-Sequential.ensures)
+    WroteNet (net_of c.args.net.now.matrix) M c.args.first (length c.args.work.now) c.args.list.now c.write_with-in-Sequential.new.list c.args.out.now c.write_with-in-Sequential.new.out c.write_with-in-Sequential.result in
+    picked P c.args.choice Choice.Sequential c.in-Sequential.is (simp to_z-of_z at c.write_with-in-Sequential.ensures)
 
 pub returns-in-Commander : goal.returns-in-Commander
 returns-in-Commander c =
     let fits : SFits w32 c.args.first = c.ranges.first in
     let P : Meaning → Type 0 = λ M.
-    WroteNet (net_of c.args.net.now.matrix) M c.args.first (length c.args.work.now) c.args.list.now c.write-with-in-Commander.new.list c.args.out.now c.write-with-in-Commander.new.out c.write-with-in-Commander.result in
-    picked P c.args.choice Choice.Commander c.in-Commander.is (subst (λ (k : ℕ). P (commander k pairwise binary)) c.new.ensures.size (simp to_z-of_z at c.write-with-in-Commander.ensures))
+    WroteNet (net_of c.args.net.now.matrix) M c.args.first (length c.args.work.now) c.args.list.now c.write_with-in-Commander.new.list c.args.out.now c.write_with-in-Commander.new.out c.write_with-in-Commander.result in
+    picked P c.args.choice Choice.Commander c.in-Commander.is (subst (λ (k : ℕ). P (commander k pairwise binary)) c.new.ensures.size (simp to_z-of_z at c.write_with-in-Commander.ensures))
 
 pub returns-in-Tower : goal.returns-in-Tower
 returns-in-Tower c =
     let fits : SFits w32 c.args.first = c.ranges.first in
     let P : Meaning → Type 0 = λ M.
-    WroteNet (net_of c.args.net.now.matrix) M c.args.first (length c.args.work.now) c.args.list.now c.write-with-in-Tower.new.list c.args.out.now c.write-with-in-Tower.new.out c.write-with-in-Tower.result in
-    picked P c.args.choice Choice.Tower c.in-Tower.is (simp to_z-of_z at c.write-with-in-Tower.ensures)
+    WroteNet (net_of c.args.net.now.matrix) M c.args.first (length c.args.work.now) c.args.list.now c.write_with-in-Tower.new.list c.args.out.now c.write_with-in-Tower.new.out c.write_with-in-Tower.result in
+    picked P c.args.choice Choice.Tower c.in-Tower.is (simp to_z-of_z at c.write_with-in-Tower.ensures)

@@ -17,12 +17,12 @@ bounds-list-to c =
 pub loop-j-preserved : goal.loop-j-preserved
 loop-j-preserved c = elim c.if-test.branch [
   | then-test w ↦
-      let f : SFits w32 w.literal-of.result = search rules in
+      let f : SFits w32 w.literal_of.result = search rules in
       let e = sym (held_is c.args.count c.args.mask.now c.loop-j.j c.loop-j-test.true) ∙ sym w.if-test.ensures in
       let l : c.loop-j.to < length c.loop-j.list =
       room c.args.count (held c.args.count c.args.mask.now) c.args.list.now c.args.at c.args.k c.loop-j.j c.loop-j.to c.loop-j.list c.loop-j-test.true c.loop-j.invariant e (omega (arith, c.requires.fits.1)) in
       takes c.args.count (held c.args.count c.args.mask.now) c.args.list.now c.args.at c.args.k c.loop-j.j c.loop-j.to c.loop-j.list c.loop-j-test.true c.loop-j.invariant
-      c.if-test.to c.if-test.list _ e l (to_z-of_z w32 w.literal-of.result f ∙ w.literal-of.ensures) w.to-is w.list-is
+      c.if-test.to c.if-test.list _ e l (to_z-of_z w32 w.literal_of.result f ∙ w.literal_of.ensures) w.to-is w.list-is
   | else-test w ↦
       let e = sym (held_is c.args.count c.args.mask.now c.loop-j.j c.loop-j-test.true) ∙ sym w.if-test.ensures in
       leaves c.args.count (held c.args.count c.args.mask.now) c.args.list.now c.args.at c.args.k c.loop-j.j c.loop-j.to c.loop-j.list c.loop-j-test.true c.loop-j.invariant

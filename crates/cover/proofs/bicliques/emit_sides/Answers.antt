@@ -14,4 +14,4 @@ returns c =
     (length_those (held c.args.count c.args.a.now) c.args.count 0 ∙ sym c.requires.sizes.0)
     (length_those (held c.args.count c.args.b.now) c.args.count 0 ∙ sym c.requires.sizes.1.0)
     (omega arith)
-    (to_z-of_z w32 c.negated.result f ∙ c.negated.ensures) (to_z_pos w32 c.args.y (omega arith)) _ c.emit-side.new.list c.emit-side-2.new.list refl c.emit-side.ensures.list c.emit-side-2.ensures.list
+    (to_z-of_z w32 c.negated.result f ∙ c.negated.ensures) (to_z_pos w32 c.args.y (omega arith)) _ c.emit_side.new.list c.emit_side-2.new.list refl c.emit_side.ensures.list c.emit_side-2.ensures.list

@@ -7,17 +7,17 @@ use Rattle.cover.proofs.cliques.find_cliques.Goals as goal
 pub loop-u-init : goal.loop-u-init
 loop-u-init c = (went_none c.args.count c.args.rows c.args.words.now c.args.list.now c.requires.fit.0, sweep_start c.args.count (conflicts c.args.count c.args.rows c.args.words.now, []))
 
-pub visit-row-requires : goal.visit-row-requires
-visit-row-requires c = record {
+pub visit_row-requires : goal.visit_row-requires
+visit_row-requires c = record {
   fit = (c.loop-u.invariant.0.fit, (c.requires.fit.1, omega (arith, c.loop-u.invariant.0.high)));
   room = (omega arith, (omega arith, c.loop-u-test.true));
 }
 
-pub returns-in-default : goal.returns-in-default
-returns-in-default c =
+pub returns-in_default : goal.returns-in_default
+returns-in_default c =
     let e = ap (λ (s : Flat). length s.1) c.loop-u.invariant.1 in
     let len : length c.args.list.now ≡ length c.loop-u.list = omega arith in
-    omega (arith, e, sweep_short c.args.count (conflicts c.args.count c.args.rows c.loop-u.words, take c.loop-u.used c.loop-u.list) c.loop-u.u (length c.loop-u.list) c.loop-u-test.true c.in-default.ensures)
+    omega (arith, e, sweep_short c.args.count (conflicts c.args.count c.args.rows c.loop-u.words, take c.loop-u.used c.loop-u.list) c.loop-u.u (length c.loop-u.list) c.loop-u-test.true c.in_default.ensures)
 
 pub loop-u-preserved : goal.loop-u-preserved
 loop-u-preserved c =

@@ -30,11 +30,11 @@ returns-after-loop-k c = record {
       c.loop-k.k c.loop-k.from c.loop-k.mask c.loop-k.members c.loop-k.invariant c.loop-k-test.false (omega (arith, c.loop-k.invariant.0, simp length-set at c.loop-k.auto.members));
 }
 
-pub returns-in-default : goal.returns-in-default
-returns-in-default c = record {
+pub returns-in_default : goal.returns-in_default
+returns-in_default c = record {
   within = c.loop-k.invariant.0;
   places = placed c.args.count c.args.rows c.args.words.now c.requires.tidy c.requires.loose c.requires.pair.1.1.1 c.args.u c.args.w
       c.loop-k.k c.loop-k.from c.loop-k.mask c.loop-k.members c.loop-k.invariant (omega (arith, c.loop-k.invariant.0, simp length-set at c.loop-k.auto.members));
   grows = ended c.args.count c.args.rows c.args.words.now c.requires.tidy c.requires.loose c.requires.pair.1.1.1 c.args.u c.args.w
-      c.loop-k.k c.loop-k.from c.loop-k.mask c.loop-k.members c.loop-k.invariant c.in-default.ensures;
+      c.loop-k.k c.loop-k.from c.loop-k.mask c.loop-k.members c.loop-k.invariant c.in_default.ensures;
 }

@@ -5,5 +5,5 @@ use Rattle.cover.proofs.masks.tally.Goals as goal
 pub returns : goal.returns
 returns c = record { value = refl; bound = ones-le 64 c.args.x (omega arith) }
 
-pub overflow-cast-result : goal.overflow-cast-result
-overflow-cast-result c = omega (arith, ones-le 64 c.args.x (omega arith))
+pub overflow_cast-result : goal.overflow_cast-result
+overflow_cast-result c = omega (arith, ones-le 64 c.args.x (omega arith))

@@ -14,7 +14,7 @@ pub loop-i-preserved : goal.loop-i-preserved
 loop-i-preserved c = (
   omega (arith, c.loop-i.invariant.0, c.tally-n.ensures.bound),
   ap₂ ◌+◌ c.loop-i.invariant.1 c.tally-n.ensures.value
-      ∙ sym (word_on c.args.words.now c.args.rows c.args.u (c.args.u + 1) c.loop-i.i c.word-from.result (omega arith) c.word-from.ensures),
+      ∙ sym (word_on c.args.words.now c.args.rows c.args.u (c.args.u + 1) c.loop-i.i c.word_from.result (omega arith) c.word_from.ensures),
 )
 
 pub returns : goal.returns

@@ -9,7 +9,7 @@ loop-u-init c = let e = pairs_start c.args.count (conflicts c.args.count c.args.
 pub loop-u-preserved : goal.loop-u-preserved
 loop-u-preserved c =
     let e = pairs_more c.args.count (conflicts c.args.count c.args.rows c.args.words.now) c.loop-u.u c.loop-u-test.true in
-    (omega (arith, c.loop-u.invariant.0, c.count-after-n.ensures.bound), omega (arith, c.loop-u.invariant.1, c.count-after-n.ensures.value))
+    (omega (arith, c.loop-u.invariant.0, c.count_after-n.ensures.bound), omega (arith, c.loop-u.invariant.1, c.count_after-n.ensures.value))
 
 pub returns : goal.returns
 returns c =

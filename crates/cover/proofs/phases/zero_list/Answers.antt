@@ -9,7 +9,7 @@ returns c = laid_list c.args.list.now c.loop-i.list c.args.from (omega arith) c.
 pub loop-i-preserved : goal.loop-i-preserved
 loop-i-preserved c =
     let lt : c.loop-i.i < length c.loop-i.list = omega arith in
-    subst (λ (l : List ℤ). ((k : ℕ) → k < c.args.from → get_or l k (pos 0) ≡ get_or c.args.list.now k (pos 0)) × ((k : ℕ) → c.args.from ≤ k → k < c.loop-i.i + 1 → get_or l k (pos 0) ≡ pos 0)) (sym c.zero-at.ensures) (
+    subst (λ (l : List ℤ). ((k : ℕ) → k < c.args.from → get_or l k (pos 0) ≡ get_or c.args.list.now k (pos 0)) × ((k : ℕ) → c.args.from ≤ k → k < c.loop-i.i + 1 → get_or l k (pos 0) ≡ pos 0)) (sym c.zero_at.ensures) (
       (λ k h. let ne : k ≢ c.loop-i.i = omega arith in get_or-set_other c.loop-i.list c.loop-i.i k (pos 0) (pos 0) ne ∙ c.loop-i.invariant.0 k h),
       (λ k h g. ⊎_elim
           (λ e. subst (λ z. get_or (set c.loop-i.list c.loop-i.i (pos 0)) z (pos 0) ≡ pos 0) (sym e) (get_or-set_same c.loop-i.list c.loop-i.i (pos 0) (pos 0) lt))

@@ -12,11 +12,11 @@ returns-in-Some c =
     let fb : SFits w32 c.in-Some.b = search rules in
     let d : c.declined.result ≡ broken_fault (c.in-Some.a, c.in-Some.b) = simp to_z-of_z at c.declined.ensures in
     ap Err d ∙ ap (λ o. unless_refused (option_map broken_fault o) tt)
-    (c.in-Some.ensures ∙ ap (λ R. broken_from (2 * n) (conflicts (2 * n) R c.args.words.now) s (2 * n) 0) c.row-words.ensures)
+    (c.in-Some.ensures ∙ ap (λ R. broken_from (2 * n) (conflicts (2 * n) R c.args.words.now) s (2 * n) 0) c.row_words.ensures)
 
 pub returns-in-None : goal.returns-in-None
 returns-in-None c =
     let n = c.args.n in
     let s = assignment_of c.args.values.now in
     ap (λ o. unless_refused (option_map broken_fault o) tt)
-    (c.in-None.ensures ∙ ap (λ R. broken_from (2 * n) (conflicts (2 * n) R c.args.words.now) s (2 * n) 0) c.row-words.ensures)
+    (c.in-None.ensures ∙ ap (λ R. broken_from (2 * n) (conflicts (2 * n) R c.args.words.now) s (2 * n) 0) c.row_words.ensures)

@@ -18,4 +18,4 @@ loop-u-preserved c =
     let rel = conflicts N c.args.rows c.args.words.now in
     let s = assignment_of c.args.values.now in
     c.loop-u.invariant ∙ rows_broken N rel s c.loop-u.u c.loop-u-test.true
-    ∙ ap (λ o. or_else o (broken_from N rel s (N - (c.loop-u.u + 1)) (c.loop-u.u + 1))) (sym c.in-default.ensures)
+    ∙ ap (λ o. or_else o (broken_from N rel s (N - (c.loop-u.u + 1)) (c.loop-u.u + 1))) (sym c.in_default.ensures)

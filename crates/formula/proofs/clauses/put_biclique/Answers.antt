@@ -7,4 +7,4 @@ use Rattle.formula.proofs.clauses.put_biclique.Goals as goal
 pub returns : goal.returns
 returns c =
     sides_put (λ a. implication a (pos c.args.auxiliary)) (λ b. against (pos c.args.auxiliary) b) c.args.left.now c.args.right.now c.args.at
-    c.args.out.now c.put-implications.new.out c.put-exclusions.new.out c.requires.room c.put-implications.ensures c.put-exclusions.ensures
+    c.args.out.now c.put_implications.new.out c.put_exclusions.new.out c.requires.room c.put_implications.ensures c.put_exclusions.ensures

@@ -14,7 +14,7 @@ loop-i-preserved c =
     let i = c.loop-i.i in
     let at = c.args.at in
     let l : i < length xs = search rules in
-    let e : c.put-clause.new.out ≡ with_clause c.loop-i.out (at + 2 * i) (implication (get_or xs i (pos 0)) (pos c.args.auxiliary)) = search rules in
+    let e : c.put_clause.new.out ≡ with_clause c.loop-i.out (at + 2 * i) (implication (get_or xs i (pos 0)) (pos c.args.auxiliary)) = search rules in
     e ∙ each_step (λ a. implication a (pos c.args.auxiliary)) xs i at c.args.out.now c.loop-i.out l c.requires.room c.loop-i.invariant
 
 pub returns : goal.returns

@@ -2,8 +2,8 @@ use Rattle.std.proofs.Common.{◌≡◌, ◌+◌, ◌-◌, length, sym, ap, ◌�
 use Rattle.writing_theory.proofs.Puts.{placed_admits, placed_room, placed_small, sides_room}
 use Rattle.formula.proofs.clauses.put_part.Goals as goal
 
-pub put-clique-requires : goal.put-clique-requires
-put-clique-requires g c =
+pub put_clique-requires : goal.put_clique-requires
+put_clique-requires g c =
     let M = g.E.Encoder.meaning c.args.encoder.now in
     let place = c.in-Clique.place in
     let size = c.in-Clique.size in
@@ -14,8 +14,8 @@ put-clique-requires g c =
           c.args.at (length c.args.out.now) c.requires.room;
     }
 
-pub put-biclique-requires : goal.put-biclique-requires
-put-biclique-requires g c =
+pub put_biclique-requires : goal.put_biclique-requires
+put_biclique-requires g c =
     let M = g.E.Encoder.meaning c.args.encoder.now in
     let place = c.in-Biclique.place in
     let left = c.in-Biclique.left in

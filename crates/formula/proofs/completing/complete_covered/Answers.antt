@@ -10,9 +10,9 @@ returns g c =
     let M = g.E.Encoder.meaning c.args.encoder.now in
     let law = g.met.E.Encoder.lawful c.args.encoder.now in
     record {
-      answer = c.in-ok-auxiliaries.ensures;
+      answer = c.in_ok-auxiliaries.ensures;
       leaves = λ C ok.
-          let e = c.in-ok-auxiliaries.ensures C ok in
-          complete_put n rel M law C c.args.numbers c.args.values.now c.args.out.now c.args.list.now ok c.in-ok-auxiliaries.auxiliaries e c.put-parts.new.out
-          (c.put-parts.ensures C.parts (complete_roomy n rel M law C c.args.numbers c.args.values.now c.args.out.now c.args.list.now ok c.in-ok-auxiliaries.auxiliaries e));
+          let e = c.in_ok-auxiliaries.ensures C ok in
+          complete_put n rel M law C c.args.numbers c.args.values.now c.args.out.now c.args.list.now ok c.in_ok-auxiliaries.auxiliaries e c.put_parts.new.out
+          (c.put_parts.ensures C.parts (complete_roomy n rel M law C c.args.numbers c.args.values.now c.args.out.now c.args.list.now ok c.in_ok-auxiliaries.auxiliaries e));
     }

@@ -9,8 +9,8 @@ byte-is : (b : Bool) → bool_byte b ≡ byte b
 byte-is true = refl
 byte-is false = refl
 
-pub put-clique-requires : goal.put-clique-requires
-put-clique-requires g c =
+pub put_clique-requires : goal.put_clique-requires
+put_clique-requires g c =
     let M = g.E.Encoder.meaning c.args.encoder.now in
     let n = length c.args.values.now in
     let place = c.in-Clique.place in
@@ -23,8 +23,8 @@ put-clique-requires g c =
       room = clique_room M n c.args.list.now c.args.part c.requires.sound place size k c.in-Clique.is e c.args.at (length c.args.out.now) c.requires.room;
     }
 
-pub true-place-requires : goal.true-place-requires
-true-place-requires g c =
+pub true_place-requires : goal.true_place-requires
+true_place-requires g c =
     let M = g.E.Encoder.meaning c.args.encoder.now in
     let place = c.in-Biclique.place in
     let left = c.in-Biclique.left in
@@ -39,6 +39,6 @@ returns-in-Biclique g c =
     let left = c.in-Biclique.left in
     let j = place + left - place in
     let e : left ≡ j = omega arith in
-    ap (set c.args.out.now c.args.at) (byte-is c.is-some.result ∙ ap byte c.is-some.ensures)
+    ap (set c.args.out.now c.args.at) (byte-is c.is_some.result ∙ ap byte c.is_some.ensures)
     ∙ side_put M (length c.args.values.now) c.args.list.now c.args.part c.requires.sound place left c.in-Biclique.right j c.in-Biclique.is e
-    (assignment_of c.args.values.now) c.args.out.now c.args.at c.true-place.result c.requires.room c.true-place.ensures
+    (assignment_of c.args.values.now) c.args.out.now c.args.at c.true_place.result c.requires.room c.true_place.ensures

@@ -13,23 +13,23 @@ loop-at-init g c Ps ok =
     values_start (length c.args.values.now) (g.E.Encoder.meaning c.args.encoder.now) (g.met.E.Encoder.lawful c.args.encoder.now) Ps c.args.list.now (assignment_of c.args.values.now)
     c.args.out.now ok
 
-pub read-part-part-requires : goal.read-part-part-requires
-read-part-part-requires g c =
+pub read_part-part-requires : goal.read_part-part-requires
+read_part-part-requires g c =
     let n = length c.args.values.now in
     let M = g.E.Encoder.meaning c.args.encoder.now in
     let H = ValuesSoFar M (assignment_of c.args.values.now) c.args.out.now c.loop-at.spot c.loop-at.out in
     turn_stands n M c.requires.0 c.args.list.now c.requires.1.listed c.loop-at.at H c.loop-at-test.true (c.loop-at.invariant c.requires.0 c.requires.1)
 
-pub part-size-size-requires : goal.part-size-size-requires
-part-size-size-requires g c =
+pub part_size-size-requires : goal.part_size-size-requires
+part_size-size-requires g c =
     let n = length c.args.values.now in
     let M = g.E.Encoder.meaning c.args.encoder.now in
     let H = ValuesSoFar M (assignment_of c.args.values.now) c.args.out.now c.loop-at.spot c.loop-at.out in
     turn_moderate n M c.requires.0 c.args.list.now c.requires.1.listed c.loop-at.at H c.loop-at-test.true (c.loop-at.invariant c.requires.0 c.requires.1)
-    c.read-part-part.result c.read-part-part.ensures
+    c.read_part-part.result c.read_part-part.ensures
 
-pub put-part-requires : goal.put-part-requires
-put-part-requires g c =
+pub put_part-requires : goal.put_part-requires
+put_part-requires g c =
     let n = length c.args.values.now in
     let M = g.E.Encoder.meaning c.args.encoder.now in
     let law = g.met.E.Encoder.lawful c.args.encoder.now in
@@ -40,29 +40,29 @@ put-part-requires g c =
     let H = ValuesSoFar M s c.args.out.now c.loop-at.spot c.loop-at.out in
     let w = c.loop-at.invariant Ps ok in
     let t = c.loop-at-test.true in
-    let e = values_length n M law Ps xs s c.args.out.now ok c.loop-at.at c.loop-at.spot c.loop-at.out t w c.read-part-part.result c.read-part-part.ensures in
-    let r = values_room n M law Ps xs s c.args.out.now ok c.loop-at.at c.loop-at.spot c.loop-at.out t w c.read-part-part.result c.read-part-part.ensures in
+    let e = values_length n M law Ps xs s c.args.out.now ok c.loop-at.at c.loop-at.spot c.loop-at.out t w c.read_part-part.result c.read_part-part.ensures in
+    let r = values_room n M law Ps xs s c.args.out.now ok c.loop-at.at c.loop-at.spot c.loop-at.out t w c.read_part-part.result c.read_part-part.ensures in
     record {
-      within = (turn_within n M Ps xs ok.listed c.loop-at.at H t w c.read-part-part.result c.read-part-part.ensures).1;
-      sound = turn_sound n M Ps xs ok.listed c.loop-at.at H t w c.read-part-part.result c.read-part-part.ensures;
+      within = (turn_within n M Ps xs ok.listed c.loop-at.at H t w c.read_part-part.result c.read_part-part.ensures).1;
+      sound = turn_sound n M Ps xs ok.listed c.loop-at.at H t w c.read_part-part.result c.read_part-part.ensures;
       room = omega arith;
     }
 
-pub overflow-add-spot : goal.overflow-add-spot
-overflow-add-spot g c =
-    let h : c.loop-at.spot + c.part-size-size.result.auxiliaries ≤ length c.args.out.now =
+pub overflow_add-spot : goal.overflow_add-spot
+overflow_add-spot g c =
+    let h : c.loop-at.spot + c.part_size-size.result.auxiliaries ≤ length c.args.out.now =
     values_within (length c.args.values.now) (g.E.Encoder.meaning c.args.encoder.now) (g.met.E.Encoder.lawful c.args.encoder.now) c.requires.0 c.args.list.now
     (assignment_of c.args.values.now) c.args.out.now c.requires.1 c.loop-at.at c.loop-at.spot c.loop-at.out c.loop-at-test.true (c.loop-at.invariant c.requires.0 c.requires.1)
-    c.read-part-part.result c.read-part-part.ensures c.part-size-size.result c.part-size-size.ensures in
+    c.read_part-part.result c.read_part-part.ensures c.part_size-size.result c.part_size-size.ensures in
     search rules
 
-pub end-of-at-requires : goal.end-of-at-requires
-end-of-at-requires g c =
+pub end_of-at-requires : goal.end_of-at-requires
+end_of-at-requires g c =
     let M = g.E.Encoder.meaning c.args.encoder.now in
     let H = ValuesSoFar M (assignment_of c.args.values.now) c.args.out.now c.loop-at.spot c.loop-at.out in
-    let h : ends c.read-part-part.result ≤ length c.args.list.now =
+    let h : ends c.read_part-part.result ≤ length c.args.list.now =
     (turn_within (length c.args.values.now) M c.requires.0 c.args.list.now c.requires.1.listed c.loop-at.at H c.loop-at-test.true (c.loop-at.invariant c.requires.0 c.requires.1)
-    c.read-part-part.result c.read-part-part.ensures).1 in
+    c.read_part-part.result c.read_part-part.ensures).1 in
     search rules
 
 pub loop-at-smaller : goal.loop-at-smaller
@@ -70,8 +70,8 @@ loop-at-smaller g c =
     let M = g.E.Encoder.meaning c.args.encoder.now in
     let H = ValuesSoFar M (assignment_of c.args.values.now) c.args.out.now c.loop-at.spot c.loop-at.out in
     let l = turn_within (length c.args.values.now) M c.requires.0 c.args.list.now c.requires.1.listed c.loop-at.at H c.loop-at-test.true (c.loop-at.invariant c.requires.0 c.requires.1)
-    c.read-part-part.result c.read-part-part.ensures in
-    let e : c.end-of-at.result ≡ ends c.read-part-part.result = c.end-of-at.ensures in
+    c.read_part-part.result c.read_part-part.ensures in
+    let e : c.end_of-at.result ≡ ends c.read_part-part.result = c.end_of-at.ensures in
     let f = c.loop-at-test.true in
     omega arith
 
@@ -79,7 +79,7 @@ pub loop-at-preserved : goal.loop-at-preserved
 loop-at-preserved g c Ps ok =
     values_on (length c.args.values.now) (g.E.Encoder.meaning c.args.encoder.now) (g.met.E.Encoder.lawful c.args.encoder.now) Ps c.args.list.now
     (assignment_of c.args.values.now) c.args.out.now ok c.loop-at.at c.loop-at.spot c.loop-at.out c.loop-at-test.true (c.loop-at.invariant Ps ok)
-    c.read-part-part.result c.read-part-part.ensures c.part-size-size.result c.part-size-size.ensures c.end-of-at.result c.end-of-at.ensures c.put-part.new.out c.put-part.ensures
+    c.read_part-part.result c.read_part-part.ensures c.part_size-size.result c.part_size-size.ensures c.end_of-at.result c.end_of-at.ensures c.put_part.new.out c.put_part.ensures
 
 pub returns : goal.returns
 returns g c Ps ok =

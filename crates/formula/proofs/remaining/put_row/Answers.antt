@@ -15,8 +15,8 @@ loop-w-init c =
     let h : c.args.at + 2 * length L ≤ length c.args.out.now = c.requires.room in
     (omega arith, block_begun c.args.out.now (flat L) c.args.at (omega arith))
 
-pub first-from-requires : goal.first-from-requires
-first-from-requires c =
+pub first_from-requires : goal.first_from-requires
+first_from-requires c =
     let r = row_in c.args.count c.args.rows c.args.u (length c.args.words.now) c.requires.fit.1.0 c.requires.fit.0.room in
     (r, c.requires.fit.0.few)
 
@@ -24,8 +24,8 @@ pub loop-w-preserved : goal.loop-w-preserved
 loop-w-preserved c =
     let l = first_below c.args.count c.args.rows c.args.words.now c.requires.fit.0 c.args.u c.requires.fit.1.0 c.loop-w.from c.in-Some.w c.in-Some.ensures in (
       omega arith,
-      row_on c.args.count c.args.rows c.args.words.now c.requires.fit.0 c.args.u c.requires.fit.1.0 _ c.args.out.now c.loop-w.out c.put-clause.new.out
-          c.loop-w.spot c.loop-w.from c.in-Some.w c.in-Some.ensures (c.put-clause.ensures ∙ ap (with_clause c.loop-w.out c.loop-w.spot) c.conflict-clause.ensures)
+      row_on c.args.count c.args.rows c.args.words.now c.requires.fit.0 c.args.u c.requires.fit.1.0 _ c.args.out.now c.loop-w.out c.put_clause.new.out
+          c.loop-w.spot c.loop-w.from c.in-Some.w c.in-Some.ensures (c.put_clause.ensures ∙ ap (with_clause c.loop-w.out c.loop-w.spot) c.conflict_clause.ensures)
           c.loop-w.invariant.1,
     )
 
@@ -33,5 +33,5 @@ pub returns : goal.returns
 returns c =
     let L = row_clauses c.args.count (conflicts c.args.count c.args.rows c.args.words.now) c.args.u (c.args.u + 1) in
     let r = row_ends c.args.count c.args.rows c.args.words.now c.requires.fit.0 c.args.u c.requires.fit.1.0 c.args.out.now c.loop-w.out c.args.at c.loop-w.spot
-    c.loop-w.from L c.requires.room c.loop-w.invariant.0 c.in-default.ensures c.loop-w.invariant.1 in
+    c.loop-w.from L c.requires.room c.loop-w.invariant.0 c.in_default.ensures c.loop-w.invariant.1 in
     record { end = r.1; out = r.0 }

@@ -3,8 +3,8 @@ use Rattle.layer_theory.specs.Grouping.{groups, start}
 use Rattle.layer_theory.proofs.Rule.{rule_forms, group_is}
 use Rattle.layers.proofs.group.group_of.Goals as goal
 
-pub returns-then-t-group-start : goal.returns-then-t-group-start
-returns-then-t-group-start c =
+pub returns-then-t-group_start : goal.returns-then-t-group_start
+returns-then-t-group_start c =
     let k = c.args.k in
     let m = c.args.members in
     let i = c.loop-i.i in

@@ -29,14 +29,14 @@ returns g c =
     } in
     let room : at + 2 * sum n (λ i. G.clauses (size s i)) ≤ length old = omega (arith, c.requires.room) in
     let l = length_lists_to k n s xs r G (g.met.G.Encoder.lawful c.args.group.now) (z + n) ok at old room n (omega arith) in
-    let ec = c.add-up-totals.ensures.clauses in
-    let ea = c.add-up-totals.ensures.auxiliaries in
-    let en : z + c.group-count.result ≡ z + n = ap (λ q. z + q) c.group-count.ensures in
-    let e₁ : c.put-groups.new.out ≡ with_block old at (flat (each 0 n (group_list G s xs (z + n)))) =
-    c.put-groups.ensures ∙ ap (λ q. with_block old at (flat (each 0 n (group_list G s xs q)))) en in
+    let ec = c.add_up-totals.ensures.clauses in
+    let ea = c.add_up-totals.ensures.auxiliaries in
+    let en : z + c.group_count.result ≡ z + n = ap (λ q. z + q) c.group_count.ensures in
+    let e₁ : c.put_groups.new.out ≡ with_block old at (flat (each 0 n (group_list G s xs (z + n)))) =
+    c.put_groups.ensures ∙ ap (λ q. with_block old at (flat (each 0 n (group_list G s xs q)))) en in
     record {
-      leaves = lists_join (each 0 n (group_list G s xs (z + n))) (links n s xs z) old c.put-groups.new.out c.put-links.new.out at (at + 2 * c.add-up-totals.result.clauses)
-          (omega arith) (omega arith) e₁ c.put-links.ensures;
+      leaves = lists_join (each 0 n (group_list G s xs (z + n))) (links n s xs z) old c.put_groups.new.out c.put_links.new.out at (at + 2 * c.add_up-totals.result.clauses)
+          (omega arith) (omega arith) e₁ c.put_links.ensures;
       at = omega arith;
       first = omega arith;
     }

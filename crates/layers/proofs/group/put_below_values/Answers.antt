@@ -14,10 +14,10 @@ returns g c =
     let t = c.args.place in
     let G = g.G.Encoder.meaning c.args.group.now in
     let l : length (table n (lies s t)) ≡ n = length-map-range_with_len (lies s t) 0 n in
-    let e = c.group-count.ensures in
-    let ea = c.add-up.ensures.auxiliaries in
+    let e = c.group_count.ensures in
+    let ea = c.add_up.ensures.auxiliaries in
     record {
-      leaves = values_join (table n (lies s t)) (each 0 n (λ i. G.values (size s i) (place_in s t i))) c.args.out.now c.put-commands.new.out c.put-group-values.new.out
-          c.args.at (c.args.at + c.group-count.result) (omega (arith, c.requires.room)) (omega arith) c.put-commands.ensures c.put-group-values.ensures;
+      leaves = values_join (table n (lies s t)) (each 0 n (λ i. G.values (size s i) (place_in s t i))) c.args.out.now c.put_commands.new.out c.put_group_values.new.out
+          c.args.at (c.args.at + c.group_count.result) (omega (arith, c.requires.room)) (omega arith) c.put_commands.ensures c.put_group_values.ensures;
       at = omega arith;
     }

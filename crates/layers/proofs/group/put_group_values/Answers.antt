@@ -11,8 +11,8 @@ use Rattle.layers.proofs.group.put_group_values.Goals as goal
 pub loop-i-init : goal.loop-i-init
 loop-i-init g c = (omega arith, block_none c.args.out.now c.args.at)
 
-pub put-values-requires : goal.put-values-requires
-put-values-requires g c =
+pub put_values-requires : goal.put_values-requires
+put_values-requires g c =
     let k = c.args.k in
     let m = c.args.members in
     let n = groups k m in
@@ -21,18 +21,18 @@ put-values-requires g c =
     let i = c.loop-i.i in
     let G = g.G.Encoder.meaning c.args.group.now in
     let l : i < n = search rules in
-    let e : c.group-size-size.result ≡ size s i = c.group-size-size.ensures in
+    let e : c.group_size-size.result ≡ size s i = c.group_size-size.ensures in
     let z = size_within k m n s r i l in
     let w = values_room k m n s r c.requires.size.2 G (g.met.G.Encoder.lawful c.args.group.now) c.args.place c.args.at c.args.out.now c.requires.room i l c.loop-i.out c.loop-i.spot c.loop-i.invariant.1 c.loop-i.invariant.0 in
     let a = ap G.auxiliaries e in
     record {
       few = omega (arith, c.requires.size.2);
-      within = subst (λ o. Within o c.group-size-size.result) (sym c.place-within.ensures) (subst (λ q. Within (place_in s c.args.place i) q) (sym e) (within_place k m n s r c.args.place i));
+      within = subst (λ o. Within o c.group_size-size.result) (sym c.place_within.ensures) (subst (λ q. Within (place_in s c.args.place i) q) (sym e) (within_place k m n s r c.args.place i));
       room = omega arith;
     }
 
-pub overflow-add-spot : goal.overflow-add-spot
-overflow-add-spot g c =
+pub overflow_add-spot : goal.overflow_add-spot
+overflow_add-spot g c =
     let k = c.args.k in
     let m = c.args.members in
     let n = groups k m in
@@ -42,8 +42,8 @@ overflow-add-spot g c =
     let G = g.G.Encoder.meaning c.args.group.now in
     let l : i < n = search rules in
     let w = values_room k m n s r c.requires.size.2 G (g.met.G.Encoder.lawful c.args.group.now) c.args.place c.args.at c.args.out.now c.requires.room i l c.loop-i.out c.loop-i.spot c.loop-i.invariant.1 c.loop-i.invariant.0 in
-    let a : c.auxiliaries-of-spot.result ≡ G.auxiliaries (size s i) = c.auxiliaries-of-spot.ensures ∙ ap G.auxiliaries c.group-size-size.ensures in
-    let small : c.loop-i.spot + c.auxiliaries-of-spot.result ≤ length c.loop-i.out = omega arith in
+    let a : c.auxiliaries_of-spot.result ≡ G.auxiliaries (size s i) = c.auxiliaries_of-spot.ensures ∙ ap G.auxiliaries c.group_size-size.ensures in
+    let small : c.loop-i.spot + c.auxiliaries_of-spot.result ≤ length c.loop-i.out = omega arith in
     search rules
 
 pub loop-i-preserved : goal.loop-i-preserved
@@ -56,13 +56,13 @@ loop-i-preserved g c =
     let i = c.loop-i.i in
     let G = g.G.Encoder.meaning c.args.group.now in
     let l : i < n = search rules in
-    let e : c.group-size-size.result ≡ size s i = c.group-size-size.ensures in
-    let a : c.auxiliaries-of-spot.result ≡ G.auxiliaries (size s i) = c.auxiliaries-of-spot.ensures ∙ ap G.auxiliaries e in
+    let e : c.group_size-size.result ≡ size s i = c.group_size-size.ensures in
+    let a : c.auxiliaries_of-spot.result ≡ G.auxiliaries (size s i) = c.auxiliaries_of-spot.ensures ∙ ap G.auxiliaries e in
     let ma = sum_more (λ j. G.auxiliaries (size s j)) i in
     let h = c.loop-i.invariant.0 in (
       omega arith,
       values_next k m n s r c.requires.size.2 G (g.met.G.Encoder.lawful c.args.group.now) c.args.place c.args.at c.args.out.now c.requires.room i l c.loop-i.out c.loop-i.spot c.loop-i.invariant.1 c.loop-i.invariant.0
-          c.put-values.new.out
-          (c.put-values.ensures ∙ ap (λ q. with_block c.loop-i.out c.loop-i.spot (map byte (G.values q c.place-within.result))) e
-          ∙ ap (λ o. with_block c.loop-i.out c.loop-i.spot (map byte (G.values (size s i) o))) c.place-within.ensures),
+          c.put_values.new.out
+          (c.put_values.ensures ∙ ap (λ q. with_block c.loop-i.out c.loop-i.spot (map byte (G.values q c.place_within.result))) e
+          ∙ ap (λ o. with_block c.loop-i.out c.loop-i.spot (map byte (G.values (size s i) o))) c.place_within.ensures),
     )

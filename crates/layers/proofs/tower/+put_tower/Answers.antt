@@ -13,49 +13,49 @@ use Rattle.encoder_theory.proofs.Inner.{few_clauses, few_auxiliaries}
 use Rattle.layer_theory.proofs.Put.{clauses_are, auxiliaries_are, below_admitted, names_fit, below_room, top_admits_names, top_room, all_put, values_below_room, top_values_few, top_values_within, top_values_room, all_values_put, whole_clauses, whole_auxiliaries, whole_list, whole_values}
 use Rattle.layers.proofs.tower.+put_tower.Goals as goal
 
-pub put-list-requires : goal.put-list-requires
-put-list-requires t c =
+pub put_list-requires : goal.put_list-requires
+put_list-requires t c =
     let xs = c.args.members.now in
     let m = length xs in
     let z = c.args.first in
     let at = c.args.at in
     let old = c.args.out.now in
-    let w : whole 3 m ≡ true = sym c.is-ground.ensures ∙ c.if-is-ground.true in
+    let w : whole 3 m ≡ true = sym c.is_ground.ensures ∙ c.if-is_ground.true in
     let ec = whole_clauses 3 m pairwise tower tower (tower_above m) w in
     let ea = whole_auxiliaries 3 m pairwise tower tower (tower_above m) w in
     record { admits = subst (λ a. Admitted xs z a) ea c.requires.admits; room = omega (arith, c.requires.room) }
 
-pub returns-then-is-ground : goal.returns-then-is-ground
-returns-then-is-ground t c =
+pub returns-then-is_ground : goal.returns-then-is_ground
+returns-then-is_ground t c =
     let xs = c.args.members.now in
     let m = length xs in
     let z = c.args.first in
     let at = c.args.at in
     let old = c.args.out.now in
-    let w : whole 3 m ≡ true = sym c.is-ground.ensures ∙ c.if-is-ground.true in
-    c.put-list.ensures ∙ ap (λ L. with_block old at (flat L)) (sym (whole_list 3 m pairwise tower tower (tower_above m) w xs z refl))
+    let w : whole 3 m ≡ true = sym c.is_ground.ensures ∙ c.if-is_ground.true in
+    c.put_list.ensures ∙ ap (λ L. with_block old at (flat L)) (sym (whole_list 3 m pairwise tower tower (tower_above m) w xs z refl))
 
-pub name-commanders-names-requires : goal.name-commanders-names-requires
-name-commanders-names-requires t c =
+pub name_commanders-names-requires : goal.name_commanders-names-requires
+name_commanders-names-requires t c =
     let xs = c.args.members.now in
     let m = length xs in
     let z = c.args.first in
     let at = c.args.at in
     let old = c.args.out.now in
-    let w : whole 3 m ≡ false = sym c.is-ground.ensures ∙ c.if-is-ground.false in
+    let w : whole 3 m ≡ false = sym c.is_ground.ensures ∙ c.if-is_ground.false in
     let k2 : 2 ≤ 3 = omega arith in
-    let en : c.group-count-n.result ≡ groups 3 m = c.group-count-n.ensures in
+    let en : c.group_count-n.result ≡ groups 3 m = c.group_count-n.ensures in
     let f = names_fit 3 k2 pairwise tower tower pairwise_lawful tower_lawful xs (tower_above m) w z c.requires.admits in
     (omega (arith, f.0), omega (arith, f.1))
 
-pub put-below-above-requires : goal.put-below-above-requires
-put-below-above-requires t c =
+pub put_below-above-requires : goal.put_below-above-requires
+put_below-above-requires t c =
     let xs = c.args.members.now in
     let m = length xs in
     let z = c.args.first in
     let at = c.args.at in
     let old = c.args.out.now in
-    let w : whole 3 m ≡ false = sym c.is-ground.ensures ∙ c.if-is-ground.false in
+    let w : whole 3 m ≡ false = sym c.is_ground.ensures ∙ c.if-is_ground.false in
     let k2 : 2 ≤ 3 = omega arith in
     record {
       size = (k2, omega arith, w);
@@ -63,29 +63,29 @@ put-below-above-requires t c =
       room = below_room 3 k2 pairwise tower tower pairwise_lawful tower_lawful xs (tower_above m) w z c.requires.admits at old c.requires.room;
     }
 
-pub put-tower-requires : goal.put-tower-requires
-put-tower-requires t c =
+pub put_tower-requires : goal.put_tower-requires
+put_tower-requires t c =
     let xs = c.args.members.now in
     let m = length xs in
     let z = c.args.first in
     let at = c.args.at in
     let old = c.args.out.now in
-    let w : whole 3 m ≡ false = sym c.is-ground.ensures ∙ c.if-is-ground.false in
+    let w : whole 3 m ≡ false = sym c.is_ground.ensures ∙ c.if-is_ground.false in
     let k2 : 2 ≤ 3 = omega arith in
-    let n = c.group-count-n.result in
-    let en : n ≡ groups 3 m = c.group-count-n.ensures in
-    let ys = take n c.name-commanders-names.result in
-    let ey : ys ≡ commanders (groups 3 m) z = c.name-commanders-names.ensures ∙ ap (λ q. commanders q z) en in
-    let b = c.put-below-above.ensures in
+    let n = c.group_count-n.result in
+    let en : n ≡ groups 3 m = c.group_count-n.ensures in
+    let ys = take n c.name_commanders-names.result in
+    let ey : ys ≡ commanders (groups 3 m) z = c.name_commanders-names.ensures ∙ ap (λ q. commanders q z) en in
+    let b = c.put_below-above.ensures in
     let fewer = third_fewer m w in
     let ly : length ys ≡ groups 3 m = ap length ey ∙ length_commanders (groups 3 m) z in
     let shorter : length ys < length xs = omega arith in (
       search rules,
       (
-        top_admits_names 3 k2 pairwise tower tower pairwise_lawful tower_lawful xs (tower_above m) w z c.requires.admits at old c.requires.room c.put-below-above.new.out c.put-below-above.new.out ys
-            c.put-below-above.result.at c.put-below-above.result.first ey b.at b.first b.leaves,
-        top_room 3 k2 pairwise tower tower pairwise_lawful tower_lawful xs (tower_above m) w z c.requires.admits at old c.requires.room c.put-below-above.new.out c.put-below-above.new.out ys
-            c.put-below-above.result.at c.put-below-above.result.first ey b.at b.first b.leaves,
+        top_admits_names 3 k2 pairwise tower tower pairwise_lawful tower_lawful xs (tower_above m) w z c.requires.admits at old c.requires.room c.put_below-above.new.out c.put_below-above.new.out ys
+            c.put_below-above.result.at c.put_below-above.result.first ey b.at b.first b.leaves,
+        top_room 3 k2 pairwise tower tower pairwise_lawful tower_lawful xs (tower_above m) w z c.requires.admits at old c.requires.room c.put_below-above.new.out c.put_below-above.new.out ys
+            c.put_below-above.result.at c.put_below-above.result.first ey b.at b.first b.leaves,
       ),
     )
 
@@ -96,12 +96,12 @@ returns t c =
     let z = c.args.first in
     let at = c.args.at in
     let old = c.args.out.now in
-    let w : whole 3 m ≡ false = sym c.is-ground.ensures ∙ c.if-is-ground.false in
+    let w : whole 3 m ≡ false = sym c.is_ground.ensures ∙ c.if-is_ground.false in
     let k2 : 2 ≤ 3 = omega arith in
-    let n = c.group-count-n.result in
-    let en : n ≡ groups 3 m = c.group-count-n.ensures in
-    let ys = take n c.name-commanders-names.result in
-    let ey : ys ≡ commanders (groups 3 m) z = c.name-commanders-names.ensures ∙ ap (λ q. commanders q z) en in
-    let b = c.put-below-above.ensures in
-    all_put 3 k2 pairwise tower tower pairwise_lawful tower_lawful xs (tower_above m) w z c.requires.admits at old c.requires.room c.put-below-above.new.out c.put-tower.new.out ys
-    c.put-below-above.result.at c.put-below-above.result.first ey b.at b.first b.leaves c.put-tower.ensures
+    let n = c.group_count-n.result in
+    let en : n ≡ groups 3 m = c.group_count-n.ensures in
+    let ys = take n c.name_commanders-names.result in
+    let ey : ys ≡ commanders (groups 3 m) z = c.name_commanders-names.ensures ∙ ap (λ q. commanders q z) en in
+    let b = c.put_below-above.ensures in
+    all_put 3 k2 pairwise tower tower pairwise_lawful tower_lawful xs (tower_above m) w z c.requires.admits at old c.requires.room c.put_below-above.new.out c.put_tower.new.out ys
+    c.put_below-above.result.at c.put_below-above.result.first ey b.at b.first b.leaves c.put_tower.ensures

@@ -1,5 +1,5 @@
 use Rattle.std.proofs.Common.{length}
 use Rattle.layers.proofs.tower.+put_tower.Given as goal
 
-abbrev pub decreases-put-tower : goal.decreases-put-tower
-decreases-put-tower l = length l.members.now
+abbrev pub decreases-put_tower : goal.decreases-put_tower
+decreases-put_tower l = length l.members.now

@@ -1,4 +1,4 @@
 use Rattle.layers.proofs.tower.+put_tower_values.Given as goal
 
-abbrev pub decreases-put-tower-values : goal.decreases-put-tower-values
-decreases-put-tower-values l = l.members
+abbrev pub decreases-put_tower_values : goal.decreases-put_tower_values
+decreases-put_tower_values l = l.members

@@ -1,4 +1,4 @@
 use Rattle.layers.proofs.tower.+tower_auxiliaries.Given as goal
 
-abbrev pub decreases-tower-auxiliaries : goal.decreases-tower-auxiliaries
-decreases-tower-auxiliaries l = l.members
+abbrev pub decreases-tower_auxiliaries : goal.decreases-tower_auxiliaries
+decreases-tower_auxiliaries l = l.members

@@ -13,42 +13,42 @@ use Rattle.encoder_theory.proofs.Inner.{few_clauses, few_auxiliaries}
 use Rattle.layer_theory.proofs.Put.{clauses_are, auxiliaries_are, below_admitted, names_fit, below_room, top_admits_names, top_room, all_put, values_below_room, top_values_few, top_values_within, top_values_room, all_values_put, whole_clauses, whole_auxiliaries, whole_list, whole_values}
 use Rattle.layers.proofs.tower.+tower_clauses.Goals as goal
 
-pub returns-then-is-ground : goal.returns-then-is-ground
-returns-then-is-ground t c =
+pub returns-then-is_ground : goal.returns-then-is_ground
+returns-then-is_ground t c =
     let m = c.args.members in
-    let w : whole 3 m ≡ true = sym c.is-ground.ensures ∙ c.if-is-ground.true in
-    c.clauses-of.ensures ∙ sym (whole_clauses 3 m pairwise tower tower (tower_above m) w)
+    let w : whole 3 m ≡ true = sym c.is_ground.ensures ∙ c.if-is_ground.true in
+    c.clauses_of.ensures ∙ sym (whole_clauses 3 m pairwise tower tower (tower_above m) w)
 
-pub overflow-add-result : goal.overflow-add-result
-overflow-add-result t c =
+pub overflow_add-result : goal.overflow_add-result
+overflow_add-result t c =
     let m = c.args.members in
-    let w : whole 3 m ≡ false = sym c.is-ground.ensures ∙ c.if-is-ground.false in
+    let w : whole 3 m ≡ false = sym c.is_ground.ensures ∙ c.if-is_ground.false in
     let e = clauses_are 3 m pairwise tower tower (tower_above m) w in
     let f = few_clauses tower tower_lawful m c.requires in
-    let a = c.add-up.ensures.clauses in
-    let n = c.group-count-n.ensures in
-    let small : c.add-up.result.clauses + c.args.members ≤ 65_536 = omega arith in
+    let a = c.add_up.ensures.clauses in
+    let n = c.group_count-n.ensures in
+    let small : c.add_up.result.clauses + c.args.members ≤ 65_536 = omega arith in
     search rules
 
-pub overflow-add-result-2 : goal.overflow-add-result-2
-overflow-add-result-2 t c =
+pub overflow_add-result-2 : goal.overflow_add-result-2
+overflow_add-result-2 t c =
     let m = c.args.members in
-    let w : whole 3 m ≡ false = sym c.is-ground.ensures ∙ c.if-is-ground.false in
+    let w : whole 3 m ≡ false = sym c.is_ground.ensures ∙ c.if-is_ground.false in
     let e = clauses_are 3 m pairwise tower tower (tower_above m) w in
     let f = few_clauses tower tower_lawful m c.requires in
-    let a = c.add-up.ensures.clauses in
-    let n = c.group-count-n.ensures in
-    let r : c.tower-clauses.result ≡ tower.clauses (groups 3 m) = c.tower-clauses.ensures ∙ ap tower.clauses n in
-    let small : c.add-up.result.clauses + c.args.members + c.tower-clauses.result ≤ 65_536 = omega arith in
+    let a = c.add_up.ensures.clauses in
+    let n = c.group_count-n.ensures in
+    let r : c.tower_clauses.result ≡ tower.clauses (groups 3 m) = c.tower_clauses.ensures ∙ ap tower.clauses n in
+    let small : c.add_up.result.clauses + c.args.members + c.tower_clauses.result ≤ 65_536 = omega arith in
     search rules
 
 pub returns : goal.returns
 returns t c =
     let m = c.args.members in
-    let w : whole 3 m ≡ false = sym c.is-ground.ensures ∙ c.if-is-ground.false in
+    let w : whole 3 m ≡ false = sym c.is_ground.ensures ∙ c.if-is_ground.false in
     let e = clauses_are 3 m pairwise tower tower (tower_above m) w in
     let f = few_clauses tower tower_lawful m c.requires in
-    let a = c.add-up.ensures.clauses in
-    let n = c.group-count-n.ensures in
-    let r : c.tower-clauses.result ≡ tower.clauses (groups 3 m) = c.tower-clauses.ensures ∙ ap tower.clauses n in
+    let a = c.add_up.ensures.clauses in
+    let n = c.group_count-n.ensures in
+    let r : c.tower_clauses.result ≡ tower.clauses (groups 3 m) = c.tower_clauses.ensures ∙ ap tower.clauses n in
     omega arith

@@ -1,4 +1,4 @@
 use Rattle.layers.proofs.tower.+tower_clauses.Given as goal
 
-abbrev pub decreases-tower-clauses : goal.decreases-tower-clauses
-decreases-tower-clauses l = l.members
+abbrev pub decreases-tower_clauses : goal.decreases-tower_clauses
+decreases-tower_clauses l = l.members

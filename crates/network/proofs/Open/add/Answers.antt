@@ -12,13 +12,14 @@ use Rattle.network_theory.proofs.Kept.{sound_same, after_sound}
 use Rattle.network.specs.Views.{net_of}
 use Rattle.network.proofs.Open.add.Goals as goal
 
-pub invariant-of-self : goal.invariant-of-self
-invariant-of-self c =
+pub invariant_of-self : goal.invariant_of-self
+invariant_of-self c =
     let fa = c.ranges.a in let fb = c.ranges.b in
     let self = c.args.self.now in
     let words : c.add.new.self.words.now ≡ words_after (net_of self.matrix) (Add c.args.a c.args.b) = simp to_z-of_z at c.add.ensures.words in
-    sound_same _ (net_of c.add.new.self) (same_net _ _ _ _ c.add.ensures.variables words)
-    (after_sound (net_of self.matrix) (Add c.args.a c.args.b) (self.few, (self.room, (self.mutual, (self.apart, (self.trimmed, tt))))))
+    let s = sound_same _ (net_of c.add.new.self) (same_net _ _ _ _ c.add.ensures.variables words)
+    (after_sound (net_of self.matrix) (Add c.args.a c.args.b) (self.few, (self.room, (self.mutual, (self.apart, (self.trimmed, tt)))))) in
+    record { few = s.0; room = s.1.0; «mutual» = s.1.1.0; apart = s.1.1.1.0; trimmed = s.1.1.1.1.0 }
 
 pub returns : goal.returns
 returns c =

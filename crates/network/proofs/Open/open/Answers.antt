@@ -3,10 +3,11 @@ use Rattle.network_theory.proofs.Kept.{sound_same, opened_sound}
 use Rattle.network.specs.Views.{net_of}
 use Rattle.network.proofs.Open.open.Goals as goal
 
-pub invariant-of-result : goal.invariant-of-result
-invariant-of-result c =
-    sound_same _ (net_of c.empty-matrix.result) (same_net _ _ _ _ c.empty-matrix.ensures.variables c.empty-matrix.ensures.words)
-    (opened_sound c.args.n c.args.words.now)
+pub invariant_of-result : goal.invariant_of-result
+invariant_of-result c =
+    let s = sound_same _ (net_of c.empty-matrix.result) (same_net _ _ _ _ c.empty-matrix.ensures.variables c.empty-matrix.ensures.words)
+    (opened_sound c.args.n c.args.words.now) in
+    record { few = s.0; room = s.1.0; «mutual» = s.1.1.0; apart = s.1.1.1.0; trimmed = s.1.1.1.1.0 }
 
 pub returns : goal.returns
 returns c =

@@ -5,10 +5,10 @@ use Rattle.network.proofs.matrix.word_at.Goals as goal
 
 pub returns : goal.returns
 returns c =
-    let e : c.args.u * c.row-words.result + c.args.w / 64 ≡ word_at c.args.n c.args.u c.args.w =
-    ap (λ z. c.args.u * z + c.args.w / 64) c.row-words.ensures in
+    let e : c.args.u * c.row_words.result + c.args.w / 64 ≡ word_at c.args.n c.args.u c.args.w =
+    ap (λ z. c.args.u * z + c.args.w / 64) c.row_words.ensures in
     record {
       value = e;
       needed = subst (λ z. z < words_needed c.args.n) (sym e)
-          (word_at_needed c.args.n c.args.u c.args.w c.requires.u-index (column_within c.args.n c.args.w c.requires.w-index));
+          (word_at_needed c.args.n c.args.u c.args.w c.requires.u_index (column_within c.args.n c.args.w c.requires.w_index));
     }

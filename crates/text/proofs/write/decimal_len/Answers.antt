@@ -4,8 +4,8 @@ use Rattle.text.proofs.write.decimal_len.Goals as goal
 
 pub returns : goal.returns
 returns c =
-    let ten : length c.digits-of-from.result.0 ≡ 10 = search rules in
+    let ten : length c.digits_of-from.result.0 ≡ 10 = search rules in
     record {
-      value = ap (λ k. k - c.digits-of-from.result.1) (sym ten) ∙ sym (length-drop c.digits-of-from.result.1 c.digits-of-from.result.0) ∙ ap length c.digits-of-from.ensures.digits;
+      value = ap (λ k. k - c.digits_of-from.result.1) (sym ten) ∙ sym (length-drop c.digits_of-from.result.1 c.digits_of-from.result.0) ∙ ap length c.digits_of-from.ensures.digits;
       bound = search rules;
     }

@@ -7,8 +7,8 @@ use Rattle.text.proofs.Buffers.{Wrote, wrote_as, overlaid_none}
 use Rattle.text.proofs.Numbers.{numbers_more, number_fits}
 use Rattle.text.proofs.write.put_numbers.Goals as goal
 
-pub put-spaced-at-requires : goal.put-spaced-at-requires
-put-spaced-at-requires c =
+pub put_spaced-at-requires : goal.put_spaced-at-requires
+put_spaced-at-requires c =
     let i : ℕ = c.loop-z.z-index in
     let zs : List ℤ = c.args.numbers.now in
     let same : to_z w32 (of_z w32 (get_or zs i (pos 0))) ≡ get_or zs i (pos 0) = search rules in
@@ -23,8 +23,8 @@ loop-z-preserved c =
     let same : to_z w32 (of_z w32 (get_or zs i (pos 0))) ≡ get_or zs i (pos 0) = search rules in
     let out : length c.loop-z.out ≡ length c.args.out.now = search rules in
     let fits = number_fits zs i c.loop-z.at (length c.loop-z.out) c.loop-z-test.true (omega (arith, c.loop-z.invariant.0, c.requires, out)) in
-    let more = numbers_more c.loop-z.out c.put-spaced-at.new.out c.loop-z.at c.put-spaced-at.result zs i c.loop-z-test.true fits
-    (wrote_as _ _ _ _ _ _ (ap spaced same) (record { end_is = c.put-spaced-at.ensures.end; after_is = c.put-spaced-at.ensures.bytes })) in
+    let more = numbers_more c.loop-z.out c.put_spaced-at.new.out c.loop-z.at c.put_spaced-at.result zs i c.loop-z-test.true fits
+    (wrote_as _ _ _ _ _ _ (ap spaced same) (record { end_is = c.put_spaced-at.ensures.end; after_is = c.put_spaced-at.ensures.bytes })) in
     (more.0 ∙ c.loop-z.invariant.0, more.1 ∙ c.loop-z.invariant.1)
 
 pub returns : goal.returns

@@ -10,7 +10,7 @@ returns-then-size-left c =
     let zs : List ℤ = c.args.numbers.now in
     let same : to_z w32 (of_z w32 (get_or zs i (pos 0))) ≡ get_or zs i (pos 0) = search rules in
     let lt : i < length zs = c.loop-z-test.true in
-    let v : c.spaced-len-size.result ≡ length (spaced (get_or zs i (pos 0))) = c.spaced-len-size.ensures ∙ ap (λ (z : ℤ). length (spaced z)) same in
+    let v : c.spaced_len-size.result ≡ length (spaced (get_or zs i (pos 0))) = c.spaced_len-size.ensures ∙ ap (λ (z : ℤ). length (spaced z)) same in
     sym (at_drop_more (λ (l : List ℤ). room_left l c.loop-z.left) zs i (pos 0) lt ∙ room_short (get_or zs i (pos 0)) (drop (i + 1) zs) c.loop-z.left (omega (arith, v))) ∙ c.loop-z.invariant.1
 
 pub loop-z-preserved : goal.loop-z-preserved
@@ -19,7 +19,7 @@ loop-z-preserved c =
     let zs : List ℤ = c.args.numbers.now in
     let same : to_z w32 (of_z w32 (get_or zs i (pos 0))) ≡ get_or zs i (pos 0) = search rules in
     let lt : i < length zs = c.loop-z-test.true in
-    let v : c.spaced-len-size.result ≡ length (spaced (get_or zs i (pos 0))) = c.spaced-len-size.ensures ∙ ap (λ (z : ℤ). length (spaced z)) same in (
+    let v : c.spaced_len-size.result ≡ length (spaced (get_or zs i (pos 0))) = c.spaced_len-size.ensures ∙ ap (λ (z : ℤ). length (spaced z)) same in (
       search rules,
       ap (λ k. room_left (drop (i + 1) zs) k) (ap (λ k. c.loop-z.left - k) v)
           ∙ sym (at_drop_more (λ (l : List ℤ). room_left l c.loop-z.left) zs i (pos 0) lt ∙ room_more (get_or zs i (pos 0)) (drop (i + 1) zs) c.loop-z.left (omega (arith, v))) ∙ c.loop-z.invariant.1,

@@ -10,8 +10,8 @@ use Rattle.encoder_theory.proofs.Inner.{written_block, filled_block, few_clauses
 use Rattle.layer_theory.proofs.Put.{clauses_are, auxiliaries_are, below_admitted, names_fit, below_room, top_admits_names, top_room, all_put, values_below_room, top_values_few, top_values_within, top_values_room, all_values_put, whole_clauses, whole_auxiliaries, whole_list, whole_values, agree_self}
 use Rattle.layers.proofs.commander.Commander.clause_count.Goals as goal
 
-pub overflow-add-result : goal.overflow-add-result
-overflow-add-result g c =
+pub overflow_add-result : goal.overflow_add-result
+overflow_add-result g c =
     let k = c.args.self.now.k in
     let k2 = c.args.self.now.size.0 in
     let G = g.G.Encoder.meaning c.args.self.now.group in
@@ -20,16 +20,16 @@ overflow-add-result g c =
     let tl = g.met.T.Encoder.lawful c.args.self.now.top in
     let M = commander k G T in
     let m = c.args.members in
-    let w : whole k m ≡ false = sym c.is-whole.ensures ∙ c.if-is-whole.false in
+    let w : whole k m ≡ false = sym c.is_whole.ensures ∙ c.if-is_whole.false in
     let e = clauses_are k m G T M (agree_self M m) w in
     let f = few_clauses M (commander_lawful k k2 G T gl tl) m c.requires in
-    let a = c.add-up.ensures.clauses in
-    let n = c.group-count-n.ensures in
-    let small : c.add-up.result.clauses + c.args.members ≤ 65_536 = omega arith in
+    let a = c.add_up.ensures.clauses in
+    let n = c.group_count-n.ensures in
+    let small : c.add_up.result.clauses + c.args.members ≤ 65_536 = omega arith in
     search rules
 
-pub clauses-of-requires-2 : goal.clauses-of-requires-2
-clauses-of-requires-2 g c =
+pub clauses_of-requires-2 : goal.clauses_of-requires-2
+clauses_of-requires-2 g c =
     let k = c.args.self.now.k in
     let k2 = c.args.self.now.size.0 in
     let G = g.G.Encoder.meaning c.args.self.now.group in
@@ -38,12 +38,12 @@ clauses-of-requires-2 g c =
     let tl = g.met.T.Encoder.lawful c.args.self.now.top in
     let M = commander k G T in
     let m = c.args.members in
-    let n = c.group-count-n.ensures in
+    let n = c.group_count-n.ensures in
     let b = groups_within k m (groups k m) (start k m) (rule_forms k m (omega arith)) in
     omega (arith, c.requires)
 
-pub overflow-add-result-2 : goal.overflow-add-result-2
-overflow-add-result-2 g c =
+pub overflow_add-result-2 : goal.overflow_add-result-2
+overflow_add-result-2 g c =
     let k = c.args.self.now.k in
     let k2 = c.args.self.now.size.0 in
     let G = g.G.Encoder.meaning c.args.self.now.group in
@@ -52,11 +52,11 @@ overflow-add-result-2 g c =
     let tl = g.met.T.Encoder.lawful c.args.self.now.top in
     let M = commander k G T in
     let m = c.args.members in
-    let w : whole k m ≡ false = sym c.is-whole.ensures ∙ c.if-is-whole.false in
+    let w : whole k m ≡ false = sym c.is_whole.ensures ∙ c.if-is_whole.false in
     let e = clauses_are k m G T M (agree_self M m) w in
     let f = few_clauses M (commander_lawful k k2 G T gl tl) m c.requires in
-    let a = c.add-up.ensures.clauses in
-    let n = c.group-count-n.ensures in
-    let r : c.clauses-of-2.result ≡ T.clauses (groups k m) = c.clauses-of-2.ensures ∙ ap T.clauses n in
-    let small : c.add-up.result.clauses + c.args.members + c.clauses-of-2.result ≤ 65_536 = omega arith in
+    let a = c.add_up.ensures.clauses in
+    let n = c.group_count-n.ensures in
+    let r : c.clauses_of-2.result ≡ T.clauses (groups k m) = c.clauses_of-2.ensures ∙ ap T.clauses n in
+    let small : c.add_up.result.clauses + c.args.members + c.clauses_of-2.result ≤ 65_536 = omega arith in
     search rules

@@ -9,14 +9,14 @@ use Rattle.network_theory.specs.Calls.{answered, objection}
 use Rattle.network_theory.proofs.Answered.{err_answered}
 use Rattle.network.proofs.matrix.Matrix.add.Goals as goal
 
-pub returns-in-err-u : goal.returns-in-err-u
-returns-in-err-u c =
+pub returns-in_err-u : goal.returns-in_err-u
+returns-in_err-u c =
     let fa = c.ranges.a in let fb = c.ranges.b in
     let m = c.args.self.now in
-    let h : ◌≡◌ {A = Result (ℕ × ℕ) Fault} (Err c.in-err-u.field-0.0) (answered (objection m.variables (Add c.args.a c.args.b)) (index c.args.a, index c.args.b)) =
-    simp to_z-of_z at c.in-err-u.ensures.value in
+    let h : ◌≡◌ {A = Result (ℕ × ℕ) Fault} (Err c.in_err-u.field-0.0) (answered (objection m.variables (Add c.args.a c.args.b)) (index c.args.a, index c.args.b)) =
+    simp to_z-of_z at c.in_err-u.ensures.value in
     let k = err_answered _ _ _ _ h in
-    let p = err_from_is_err_and c.from-residual.result c.from-residual.ensures.1 in
+    let p = err_from_is_err_and c.from_residual.result c.from_residual.ensures.1 in
     record {
       answer = rw (p.1, p.2) k.1;
       words = sym (cond-true _ _ _ k.0);
