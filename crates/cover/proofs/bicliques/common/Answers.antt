@@ -11,7 +11,7 @@ bounds-words-base c = omega (arith, row_in c.args.count c.args.rows c.args.u (le
 
 pub loop-i-preserved : goal.loop-i-preserved
 loop-i-preserved c =
-    let f : Fits w64 (get_or c.args.mask.now c.loop-i.i 0) = c.type-inv.mask c.loop-i.i in (
+    let f : Fits w64 (get_or c.args.mask.now c.loop-i.i 0) = c.type_inv.mask c.loop-i.i in (
       omega (arith, c.loop-i.invariant.0, c.tally-n.ensures.bound),
       ap₂ ◌+◌ c.loop-i.invariant.1 c.tally-n.ensures.value
           ∙ sym (word_more (λ j. marked c.args.mask.now j && stands_at c.args.words.now c.args.rows c.args.u j) c.loop-i.i

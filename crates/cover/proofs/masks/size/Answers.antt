@@ -6,7 +6,7 @@ use Rattle.cover.proofs.masks.size.Goals as goal
 
 pub loop-i-preserved : goal.loop-i-preserved
 loop-i-preserved c =
-    let f : Fits w64 (get_or c.args.mask.now c.loop-i.i 0) = c.type-inv.mask c.loop-i.i in (
+    let f : Fits w64 (get_or c.args.mask.now c.loop-i.i 0) = c.type_inv.mask c.loop-i.i in (
       omega (arith, c.loop-i.invariant.0, c.tally-n.ensures.bound),
       ap₂ ◌+◌ c.loop-i.invariant.1 c.tally-n.ensures.value
           ∙ sym (word_more (marked c.args.mask.now) c.loop-i.i (get_or c.args.mask.now c.loop-i.i 0) (omega arith) (mask_word c.args.mask.now c.loop-i.i)),

@@ -14,4 +14,4 @@ loop-u-preserved c =
 pub returns : goal.returns
 returns c =
     let e = pairs_over c.args.count (conflicts c.args.count c.args.rows c.args.words.now) c.loop-u.u c.loop-u-test.false in
-    record { value = omega (arith, c.loop-u.invariant.1); words = λ i. let f = c.type-inv.words i in omega arith }
+    record { value = omega (arith, c.loop-u.invariant.1); words = λ i. let f = c.type_inv.words i in omega arith }
