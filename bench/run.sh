@@ -8,7 +8,7 @@ cd "$(dirname "$0")/.."
 seed=${1:-1}
 work=$(mktemp -d)
 trap 'rm -rf "$work"' EXIT
-rt check cover_bench > "$work/check.log" 2>&1 || { tail -n 3 "$work/check.log"; exit 1; }
+(cd crates/cover_bench && rt run -- sparse 512 1) > "$work/check.log" 2>&1 || { tail -n 3 "$work/check.log"; exit 1; }
 compilers=
 for compiler in g++ clang++; do
     command -v "$compiler" > /dev/null || continue
@@ -31,7 +31,7 @@ seconds() {
 printf '%-10s %6s %10s %10s %6s  %s\n' network n proved plain ratio compiler
 for kind in sparse timetable dense; do
     for n in 512 1024 4096; do
-        proved=$(seconds "$work/a" target/bin/cover_bench "$kind" "$n" "$seed")
+        proved=$(seconds "$work/a" crates/cover_bench/out/cover_bench "$kind" "$n" "$seed")
         plain=
         for compiler in $compilers; do
             s=$(seconds "$work/b" "$work/$compiler" "$kind" "$n" "$seed")

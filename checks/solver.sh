@@ -2,13 +2,13 @@
 # A SAT solver as the client of `compact_small`: what is printed is satisfiable exactly if what was read is.
 # Random files with cliques, bicliques, single conflicts and longer clauses are compacted under every encoder letter;
 # then the file and its output are solved, alone and under several random partial assignments of the file's variables.
-# It needs target/bin/compact (`rt check compact_small`), python3, and minisat or cadical. It is not part of the gate.
+# It needs crates/compact_small/out/compact_small (`rt run` in its folder), python3, and minisat or cadical. It is not part of the gate.
 # Usage: checks/solver.sh [FILES]   how many files are made (default 25).
 # Exit status 0: all agree, or there is no solver; 1: a disagreement, or something did not run.
 set -u
 
 root=$(cd "$(dirname "$0")/.." && pwd -P)
-compact=$root/target/bin/compact_small
+compact=$root/crates/compact_small/out/compact_small
 files=${1:-25}
 
 solver=
@@ -26,7 +26,7 @@ if ! command -v python3 > /dev/null; then
     exit 0
 fi
 if [ ! -x "$compact" ]; then
-    echo "solver: target/bin/compact_small is not there: run 'rt check compact_small'" >&2
+    echo "solver: crates/compact_small/out/compact_small is not there: run 'rt run' in its folder" >&2
     exit 1
 fi
 

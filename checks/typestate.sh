@@ -17,7 +17,7 @@ for crate in fault logic network_theory network; do
         [ ! -d "$root/crates/$crate/$part" ] || cp -R "$root/crates/$crate/$part" "$work/crates/$crate/"
     done
 done
-(cd "$work" && git init -q && rt check fault logic network_theory) > "$work/ready.out" 2>&1 || {
+(cd "$work" && git init -q && rt check fault && rt check logic && rt check network_theory) > "$work/ready.out" 2>&1 || {
     cat "$work/ready.out"
     echo "typestate: the crates below the network are not proved" >&2
     exit 1
