@@ -27,26 +27,26 @@ use Rattle.compaction_theory.proofs.Sizes.{list_fits, few_written, auxiliaries_f
 -- ---- the writing
 
 -- the numbers from n + 1 up to the last will do
-range_fits : (n work list : ℕ) → n ≤ 4_096 → outcome.rangeUnfit n (outcome.terms (pos (n + 1)) (pos outcome.mostAuxiliary) work list) ≡ false
+range_fits : (n work list : ℕ) → n ≤ 4_096 → outcome.range_unfit n (outcome.terms (pos (n + 1)) (pos outcome.most_auxiliary) work list) ≡ false
 range_fits n work list few =
     or_from (leb (n + 1) n) _ (lt-leb (n + 1) n (omega arith))
-    (or_from (ltb outcome.mostAuxiliary outcome.mostAuxiliary) _ (le-ltb outcome.mostAuxiliary outcome.mostAuxiliary (omega arith)) (le-ltb (outcome.mostAuxiliary + 1) (n + 1) (omega arith)))
+    (or_from (ltb outcome.most_auxiliary outcome.most_auxiliary) _ (le-ltb outcome.most_auxiliary outcome.most_auxiliary (omega arith)) (le-ltb (outcome.most_auxiliary + 1) (n + 1) (omega arith)))
 
 module _ (n : ℕ) (clauses : List (List ℤ)) (t : Taken n clauses) (M : Meaning) (law : Lawful M) where
   pub writing_accepted : (work list room : ℕ) → words_needed n ≤ work → length (numbers clauses) ≤ list → length (numbers clauses) ≤ room
-      → outcome.writeAnswer n (cover_of_clauses n clauses) M (outcome.terms (pos (n + 1)) (pos outcome.mostAuxiliary) work list) room
-      ≡ outcome.unlessRefused None (outcome.size_of M (cover_of_clauses n clauses))
+      → outcome.write_answer n (cover_of_clauses n clauses) M (outcome.terms (pos (n + 1)) (pos outcome.most_auxiliary) work list) room
+      ≡ outcome.unless_refused None (outcome.size_of M (cover_of_clauses n clauses))
   writing_accepted work list room w k r =
       let parts = list_fits n clauses t.literals in
       let count = few_written n clauses t.literals M law in
       let aux = auxiliaries_few n clauses t.literals M law t.few t.few_clauses in
       let few = t.few in
       let e = numbers_counted clauses in
-      ap (λ (o : Option Fault). outcome.unlessRefused o (outcome.size_of M (cover_of_clauses n clauses)))
+      ap (λ (o : Option Fault). outcome.unless_refused o (outcome.size_of M (cover_of_clauses n clauses)))
       (cond-false _ _ _ (le-ltb work (words_needed n) w)
       ∙ cond-false _ _ _ (range_fits n work list t.few)
       ∙ cond-false _ _ _ (le-ltb list _ (omega arith))
-      ∙ cond-false _ _ _ (le-ltb (outcome.mostAuxiliary + 1) (n + 1 + auxiliary_count M (cover_of_clauses n clauses)) (omega arith))
+      ∙ cond-false _ _ _ (le-ltb (outcome.most_auxiliary + 1) (n + 1 + auxiliary_count M (cover_of_clauses n clauses)) (omega arith))
       ∙ cond-false _ _ _ (le-ltb room (2 * clause_count M (cover_of_clauses n clauses)) (omega arith)))
 
 -- ---- the text

@@ -38,7 +38,7 @@ clique_short (suc k) h =
     let c = mul-le-mul_left (suc k) l in
     rw a (omega arith)
 
-part_short : (n : ℕ) (P : Part ℤ) → Sound n P → length (lies.numbersOf P) ≤ 2 * part_conflicts P
+part_short : (n : ℕ) (P : Part ℤ) → Sound n P → length (lies.numbers_of P) ≤ 2 * part_conflicts P
 part_short n (clique xs) s = clique_short (length xs) s.2
 part_short n (biclique xs ys) s = let h = s.5 in let e = length-append xs ys in omega arith
 
@@ -48,7 +48,7 @@ list_short n [] s = omega arith
 list_short n (P ∷ Ps) s =
     let a = part_short n P (s P (inl refl)) in
     let b = list_short n Ps (λ Q i. s Q (inr i)) in
-    let e = length-append (lies.numbersOf P) (lies.numbers Ps) in omega arith
+    let e = length-append (lies.numbers_of P) (lies.numbers Ps) in omega arith
 
 -- ---- pairs, in either order
 
