@@ -110,15 +110,15 @@ pub fn complete<E: Encoder>(
     list: &mut [i32],
     out: &mut [u8],
 ) -> Result<usize, Fault>
-    ensures answer { result ≡ answer_of_complete (net_of net.now.matrix) (meaning encoder.now)
+    ensures answer { result ≡ answer_of_complete (net_of net.now.matrix) (E.meaning encoder.now)
         (lent first last work.old list.old) values.now (length out.old) }
     ensures words { work.new ≡ words_completed (net_of net.now.matrix)
         (lent first last work.old list.old) values.now work.old }
     ensures list { list.new ≡ list_completed (net_of net.now.matrix)
         (lent first last work.old list.old) values.now list.old }
-    ensures bytes { out.new ≡ bytes_left (net_of net.now.matrix) (meaning encoder.now)
+    ensures bytes { out.new ≡ bytes_left (net_of net.now.matrix) (E.meaning encoder.now)
         (lent first last work.old list.old) values.now out.old }
-    ensures completes { EveryCompletion cover_of (net_of net.now.matrix) (meaning encoder.now)
+    ensures completes { EveryCompletion cover_of (net_of net.now.matrix) (E.meaning encoder.now)
         (lent first last work.old list.old) values.now (length out.old) out.new result }
 {
     let numbers = check_valued(net.variables(), work.len(), first, last, values)?;
