@@ -1,5 +1,5 @@
 -- The account as the program counts it: new conflicts while they are added, closing zeros for clauses.
-use Rattle.std.proofs.Common.{◌≡◌, ℕ, zero, suc, ◌+◌, ◌*◌, ◌<◌, ◌≤◌, Bool, true, false, cond, not, ◌&&◌, eqb, ltb, List, [], ◌∷◌, ◌++◌, length, take, drop, replicate, ℤ, pos, is_some, is_ok, Some, None, Ok, Err, Option, Result, sym, refl, ap, ◌∙◌, subst, inl, append-nil, arith}
+use Rattle.std.proofs.Common.{◌≡◌, ℕ, ◌+◌, ◌*◌, ◌≤◌, Bool, true, false, cond, not, ◌&&◌, ltb, List, [], ◌∷◌, ◌++◌, length, take, drop, ℤ, is_some, is_ok, Some, None, Ok, Err, Option, Result, sym, refl, ap, ◌∙◌, subst, inl, append-nil, arith}
 use Rattle.std.proofs.lemmas.List.{take-append-drop}
 use Rattle.std.proofs.lemmas.Bool.{cond-true, cond-false, false≢true, lt-ltb}
 use Rattle.std.specs.Option.{option_to_list}
@@ -16,7 +16,7 @@ use Rattle.encoder_theory.specs.Meaning.{Meaning}
 use Rattle.network_theory.specs.declared.Call.TheVariants.{Add}
 use Rattle.network_theory.specs.Layout.{Net, stands}
 use Rattle.network_theory.specs.Calls.{answered, objection, add_answer}
-use Rattle.network_theory.specs.Runs.{Came, Undeclined}
+use Rattle.network_theory.specs.Runs.{Came}
 use Rattle.network_theory.proofs.Decided.{add_answer_decides}
 use Rattle.cover_theory.specs.Rows.{Sized}
 use Rattle.cover_theory.proofs.Remaining.{sized}
@@ -27,7 +27,7 @@ use Rattle.compaction_theory.specs.declared.Choice.{Choice}
 use Rattle.compaction_theory.specs.declared.Scale.{Scale}
 use Rattle.compaction_theory.specs.Sorted.{onto, clauses_in, conflict_of, conflicts_of, related}
 use Rattle.compaction_theory.specs.Choices.{encoder_of, meaning_of, most_bytes}
-use Rattle.compaction_theory.specs.Printed.{cover_of_clauses, compacted, compacted_variables, variables_fit, count_fault, blank, outcome}
+use Rattle.compaction_theory.specs.Printed.{cover_of_clauses, compacted, compacted_variables, variables_fit, count_fault, blank}
 use Rattle.compaction_theory.specs.Buffers.{asked, Taken}
 use Rattle.compaction_theory.specs.Account.{differing, account_of, account_read, account_in, new_by, new_to, Counts}
 use Rattle.compaction_theory.specs.Walks.{Walked, Closing, between}
@@ -38,7 +38,7 @@ use Rattle.compaction_theory.proofs.Pairs.{Proper, conflict_proper}
 use Rattle.compaction_theory.proofs.Picked.{lawful_choice}
 use Rattle.compaction_theory.proofs.Related.{undeclined, standing_related}
 use Rattle.compaction_theory.proofs.Sizes.{covered, compacted_of}
-use Rattle.compaction_theory.proofs.Taken.{err_outcome, long_outcome}
+use Rattle.compaction_theory.proofs.Taken.{err_outcome}
 use Rattle.compaction_theory.proofs.Walks.{clauses_more, walked_more, conflicts_more}
 
 -- ---- one clause more on a network

@@ -1,5 +1,5 @@
 -- A compacted file is printed exactly for the files within the limits.
-use Rattle.std.proofs.Common.{◌≡◌, ℕ, Bool, true, false, cond, ltb, leb, List, length, ℤ, pos, Ok, Err, Result, sym, refl, ap, ◌∙◌, subst, arith, MatchResult}
+use Rattle.std.proofs.Common.{◌≡◌, ℕ, Bool, true, false, ltb, leb, List, length, ℤ, pos, Ok, Err, Result, sym, refl, ◌∙◌, arith, MatchResult}
 use Rattle.std.proofs.lemmas.List.{length-replicate}
 use Rattle.std.proofs.lemmas.Bool.{cond-true, cond-false, and_parts, leb-true, ltb-false}
 use Rattle.fault.specs.declared.Fault.{Fault}

@@ -11,7 +11,7 @@ use Rattle.formula_theory.specs.declared.Size.{Size}
 use Rattle.formula_theory.specs.Writing.{written_clauses, clause_count}
 use Rattle.formula_theory.specs.Outcome.{size_of}
 use Rattle.compaction_theory.specs.declared.Choice.{Choice}
-use Rattle.compaction_theory.specs.Sorted.{clauses_in, others_of}
+use Rattle.compaction_theory.specs.Sorted.{others_of}
 use Rattle.compaction_theory.specs.Choices.{meaning_of}
 use Rattle.compaction_theory.specs.Printed.{cover_of_clauses, literals_of, compacted, compacted_variables, compacted_text}
 use Rattle.compaction_theory.specs.Buffers.{Taken}

@@ -1,12 +1,12 @@
 -- From what was read to what is printed.
-use Rattle.std.proofs.Common.{◌≡◌, ℕ, ◌≤◌, Bool, true, false, cond, ltb, leb, List, ◌++◌, length, take, drop, ℤ, pos, Ok, Err, Result, sym, refl, ap, ◌∙◌, subst, arith}
-use Rattle.std.proofs.lemmas.List.{take_at, length-replicate}
+use Rattle.std.proofs.Common.{◌≡◌, ℕ, Bool, true, false, ltb, leb, List, length, take, drop, ℤ, Ok, Err, Result, sym, refl, ap, ◌∙◌, subst, arith}
+use Rattle.std.proofs.lemmas.List.{take_at}
 use Rattle.std.proofs.lemmas.Bool.{cond-true, cond-false, and_parts, leb-true, ltb-false}
 use Rattle.fault.specs.declared.Fault.{Fault}
 use Rattle.dimacs.specs.declared.Summary.{Summary}
 use Rattle.dimacs.specs.Clauses.{numbers}
 use Rattle.dimacs.specs.Laws.{Holds}
-use Rattle.dimacs.specs.Reading.{Reading, reading}
+use Rattle.dimacs.specs.Reading.{reading}
 use Rattle.encoder_theory.specs.Meaning.{Meaning}
 use Rattle.compaction_theory.specs.declared.Scale.{Scale}
 use Rattle.compaction_theory.specs.Sorted.{clauses_in}

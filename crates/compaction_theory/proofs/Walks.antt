@@ -1,7 +1,7 @@
 -- A walk along a list of numbers from clause to clause passes its clauses in order.
 use Rattle.std.proofs.Common.{◌≡◌, ℕ, zero, suc, ◌+◌, ◌-◌, ◌<◌, ◌≤◌, true, false, cond, List, [], ◌∷◌, ◌++◌, map, length, get_or, take, drop, ℤ, pos, negsuc, is_some, sym, refl, ap, ◌∙◌, subst, append_assoc, append-nil, arith}
 use Rattle.std.proofs.lemmas.List.{map-append, take_more, length-take, length-drop, take-append-drop, take-take, drop-take, get_or-take, get_or-drop}
-use Rattle.std.proofs.lemmas.Bool.{cond-true, cond-false, ne_eqb}
+use Rattle.std.proofs.lemmas.Bool.{cond-false, ne_eqb}
 use Rattle.std.specs.Option.{option_to_list}
 use Rattle.logic.specs.Literal.{variable}
 use Rattle.dimacs.specs.Clauses.{numbers, closes}
@@ -9,7 +9,7 @@ use Rattle.network_theory.specs.Calls.{most_variables}
 use Rattle.network_theory.specs.declared.Call.TheVariants.{Add}
 use Rattle.compaction_theory.specs.Sorted.{onto, clauses_in, conflict_of, conflicts_of, others_of}
 use Rattle.compaction_theory.specs.Buffers.{asked}
-use Rattle.compaction_theory.specs.Walks.{Small, NoneBetween, Open, Closing, Settled, between, Walked}
+use Rattle.compaction_theory.specs.Walks.{Small, Open, Closing, between, Walked}
 
 -- only 0 is on the variable 0
 zero_only : (z : ℤ) → (z ≡ pos 0 → ⊥) → variable z ≡ 0 → ⊥

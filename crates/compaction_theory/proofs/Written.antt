@@ -1,5 +1,5 @@
 -- The writing of the program is always accepted.
-use Rattle.std.proofs.Common.{◌≡◌, ℕ, zero, suc, ◌+◌, ◌*◌, ◌≤◌, Bool, true, false, cond, ◌||◌, eqb, ltb, List, [], ◌∷◌, ◌++◌, length, get_or, drop, replicate, ℤ, pos, is_some, Some, None, Ok, Err, Option, Result, sym, refl, ap, ◌∙◌, subst, arith}
+use Rattle.std.proofs.Common.{◌≡◌, ℕ, zero, suc, ◌+◌, ◌*◌, ◌≤◌, Bool, true, false, cond, ◌||◌, eqb, ltb, List, [], ◌∷◌, ◌++◌, length, drop, replicate, ℤ, pos, is_some, Some, None, Ok, Option, Result, sym, refl, ap, ◌∙◌, subst, arith}
 use Rattle.std.proofs.lemmas.Bool.{cond-false, or_from, ne_eqb, le-ltb}
 use Rattle.fault.specs.declared.Fault.{Fault}
 use Rattle.fault.specs.declared.Refusal.{Refusal}
@@ -16,13 +16,13 @@ use Rattle.cover_theory.specs.Rule.{cover_of}
 use Rattle.cover_theory.specs.Lies.{list_holding}
 use Rattle.formula_theory.specs.declared.Size.{Size}
 use Rattle.formula_theory.specs.Writing.{written_clauses, clause_count}
-use Rattle.formula_theory.specs.Outcome.{Terms, words_short, range_unfit, list_short, exhausted, buffer_short, exhausted_fault, buffer_fault, words_fault, range_fault, list_fault, write_refusal, unless_refused, kept_if_refused, size_of, write_answer, write_leaves, early_refused, after_cover, list_after}
+use Rattle.formula_theory.specs.Outcome.{Terms, words_short, range_unfit, list_short, words_fault, range_fault, list_fault, write_refusal, unless_refused, kept_if_refused, size_of, write_answer, early_refused, after_cover}
 use Rattle.formula_theory.specs.Promise.{standing}
 use Rattle.compaction_theory.specs.declared.Choice.{Choice}
 use Rattle.compaction_theory.specs.Sorted.{clauses_in}
 use Rattle.compaction_theory.specs.Choices.{meaning_of}
 use Rattle.compaction_theory.specs.Printed.{cover_of_clauses}
-use Rattle.compaction_theory.specs.Buffers.{asked, Taken}
+use Rattle.compaction_theory.specs.Buffers.{asked}
 use Rattle.compaction_theory.specs.Walks.{Small, TakenNumbers}
 use Rattle.compaction_theory.specs.Written.{given, Wrote, WroteNet, WroteAll}
 use Rattle.compaction_theory.proofs.Related.{network_covered}

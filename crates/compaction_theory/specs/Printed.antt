@@ -7,7 +7,7 @@ use Rattle.fault.specs.declared.Refusal.TheVariants.{VariableCount, ClauseListFu
 use Rattle.logic.specs.Clause.{Clause}
 use Rattle.dimacs.specs.declared.Summary.{Summary}
 use Rattle.dimacs.specs.Clauses.{numbers}
-use Rattle.dimacs.specs.Reading.{Reading, reading, fault_at}
+use Rattle.dimacs.specs.Reading.{reading, fault_at}
 use Rattle.dimacs.specs.Written.{text_of}
 use Rattle.encoder_theory.specs.Meaning.{Meaning}
 use Rattle.cover_theory.specs.Parts.{Cover}

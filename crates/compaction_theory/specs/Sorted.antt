@@ -1,5 +1,5 @@
 -- The clauses of a file, sorted: those that are conflicts, and the others.
-use Rattle.std.specs.Prelude.{Bool, false, cond, ◌&&◌, ◌||◌, List, [], ◌∷◌, ◌++◌, ℤ, is_some, Some, None, Option, ◌==◌}
+use Rattle.std.specs.Prelude.{false, cond, ◌&&◌, ◌||◌, List, [], ◌∷◌, ◌++◌, ℤ, is_some, Some, None, Option, ◌==◌}
 use Rattle.std.specs.Option.{option_to_list}
 use Rattle.logic.specs.Literal.{variable, complement, index}
 use Rattle.dimacs.specs.Clauses.{closes}

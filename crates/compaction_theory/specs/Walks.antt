@@ -1,5 +1,5 @@
 -- A walk along a list of numbers from clause to clause.
-use Rattle.std.specs.Prelude.{◌≡◌, ℕ, ◌-◌, ◌<◌, ◌≤◌, List, ◌++◌, length, get_or, take, ℤ, pos, ◌≢◌, slice_index_or, slice_range}
+use Rattle.std.specs.Prelude.{◌≡◌, ℕ, ◌<◌, ◌≤◌, List, ◌++◌, length, get_or, take, ℤ, pos, ◌≢◌, slice_index_or, slice_range}
 use Rattle.logic.specs.Literal.{variable}
 use Rattle.network_theory.specs.Calls.{most_variables}
 use Rattle.dimacs.specs.Clauses.{numbers}

@@ -1,16 +1,15 @@
 -- What was read within the program's limits is always written, and holds the same clauses.
-use Rattle.std.proofs.Common.{◌≡◌, ℕ, suc, ◌+◌, ◌*◌, ◌^◌, ◌<◌, ◌≤◌, Bool, true, false, cond, ◌&&◌, ◌||◌, ltb, leb, List, [], ◌∷◌, ◌++◌, map, length, take, drop, replicate, ℤ, pos, negsuc, nat_abs, Some, None, Ok, Err, decimal, Option, Result, sym, refl, ap, ◌∙◌, subst, arith}
+use Rattle.std.proofs.Common.{◌≡◌, ℕ, ◌+◌, ◌*◌, ◌≤◌, Bool, true, false, cond, ◌||◌, ltb, leb, List, [], ◌∷◌, ◌++◌, map, length, take, drop, ℤ, pos, negsuc, nat_abs, None, Ok, Err, decimal, Result, sym, refl, ap, ◌∙◌, subst, arith}
 use Rattle.std.proofs.lemmas.Fmt.{length_signed_le, length-decimal-le}
 use Rattle.std.proofs.lemmas.List.{length-append, length_push, length-replicate, take_at}
-use Rattle.std.proofs.lemmas.Bool.{cond-true, cond-false, le-leb, le-ltb, and_parts, leb-true}
+use Rattle.std.proofs.lemmas.Bool.{cond-true, cond-false, le-ltb, and_parts, leb-true}
 use Rattle.std.proofs.lemmas.Bool.Decides.{nat_tests}
 use Rattle.std.specs.List.{flat_map}
 use Rattle.std.specs.Fmt.{signed_decimal}
 use Rattle.fault.specs.Fault.{fault_text}
 use Rattle.fault.specs.declared.Fault.{Fault}
-use Rattle.fault.specs.declared.Refusal.{Refusal}
 use Rattle.dimacs.specs.declared.Summary.{Summary}
-use Rattle.dimacs.specs.Clauses.{numbers, ClausesOf, closes, closings, unclosed, exceeds}
+use Rattle.dimacs.specs.Clauses.{numbers, closes, closings, unclosed, exceeds}
 use Rattle.dimacs.specs.File.{File, header_line}
 use Rattle.dimacs.specs.Laws.{Holds, read_as}
 use Rattle.dimacs.specs.Reading.{Reading, reading}

@@ -1,13 +1,13 @@
 -- A list that holds parts is read part by part.
-use Rattle.std.proofs.Common.{◌≡◌, ℕ, zero, suc, ◌+◌, ◌-◌, ◌<◌, ◌≤◌, Bool, true, false, cond, leb, List, [], ◌∷◌, ◌++◌, length, get_or, drop, replicate, ℤ, pos, negsuc, is_some, Some, None, Option, sym, refl, ap, ◌∙◌, subst, ap₂, ⊎_elim, append_assoc, arith}
+use Rattle.std.proofs.Common.{◌≡◌, ℕ, zero, suc, ◌+◌, ◌-◌, ◌<◌, ◌≤◌, leb, List, [], ◌∷◌, ◌++◌, length, get_or, drop, replicate, ℤ, pos, negsuc, is_some, Some, None, sym, refl, ap, ◌∙◌, subst, ap₂, append_assoc, arith}
 use Rattle.std.proofs.lemmas.List.{get_or-drop, length-drop, length-append, drop_at, drop-drop}
-use Rattle.std.proofs.lemmas.Bool.{cond-true, cond_both, le-leb, leb-true, both_ways, false≢true}
+use Rattle.std.proofs.lemmas.Bool.{cond-true, cond_both, le-leb, leb-true, false≢true}
 use Rattle.cover_theory.specs.Parts.{Part as PartOf, clique, biclique}
 use Rattle.cover_theory.specs.Lies.{minus, numbers_of, numbers, clique_count, biclique_count}
 use Rattle.cover_theory.specs.Rows.{Sized}
 use Rattle.cover.specs.declared.Part.{Part}
 use Rattle.cover.specs.declared.Part.TheVariants.{Clique, Biclique}
-use Rattle.cover.specs.Walk.{end_of, within, biclique_from, part_from, part_at, placed, cliques_in, bicliques_in, followed, parts_from, parts_in, summed}
+use Rattle.cover.specs.Walk.{end_of, within, part_from, part_at, placed, cliques_in, bicliques_in, followed, parts_from, parts_in, summed}
 
 head_at : (list ns : List ℤ) (at k : ℕ) → drop at list ≡ ns → get_or list (at + k) (pos 0) ≡ get_or ns k (pos 0)
 head_at list ns at k e = sym (get_or-drop at list k (pos 0)) ∙ ap (λ l. get_or l k (pos 0)) e

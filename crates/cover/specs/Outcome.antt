@@ -1,5 +1,5 @@
 -- How a call of `cover` ends: what it answers, and what it leaves in the work words and in the list.
-use Rattle.std.specs.Prelude.{ℕ, ◌*◌, Bool, true, false, cond, List, [], ◌∷◌, ◌++◌, length, drop, replicate, ℤ, pos, Ok, Err, Result, nat_lt}
+use Rattle.std.specs.Prelude.{ℕ, ◌*◌, Bool, cond, List, ◌++◌, length, drop, replicate, ℤ, pos, Ok, Err, Result, nat_lt}
 use Rattle.fault.specs.declared.Fault.{Fault}
 use Rattle.fault.specs.declared.Refusal.TheVariants.{WordsShort, PartListShort}
 use Rattle.fault.specs.declared.Layer.TheVariants.{Network, Cover}

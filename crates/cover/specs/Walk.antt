@@ -1,5 +1,5 @@
 -- Reading the parts of a list, one after the other.
-use Rattle.std.specs.Prelude.{ℕ, zero, suc, ◌+◌, ◌≤◌, Bool, true, false, cond, List, [], ◌∷◌, length, ℤ, pos, negsuc, Some, None, Option, nat_le, slice_index_or}
+use Rattle.std.specs.Prelude.{ℕ, zero, suc, ◌+◌, cond, List, [], ◌∷◌, length, ℤ, pos, negsuc, Some, None, Option, nat_le, slice_index_or}
 use Rattle.cover_theory.specs.Parts.{Part as PartOf, clique, biclique}
 use Rattle.cover.specs.declared.Part.{Part}
 use Rattle.cover.specs.declared.Part.TheVariants.{Clique, Biclique}

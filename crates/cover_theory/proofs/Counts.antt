@@ -1,12 +1,12 @@
-use Rattle.std.proofs.Common.{◌≡◌, ℕ, zero, suc, ◌+◌, ◌-◌, ◌*◌, ◌/◌, ◌%◌, ◌^◌, ◌<◌, ◌≤◌, min, Bool, true, false, cond, not, ◌&&◌, ◌||◌, eqb, ltb, leb, List, [], ◌∷◌, ◌++◌, length, get_or, sym, refl, ap, ◌∙◌, subst, ap₂, ⊎_elim, add-one, one-add, arith}
+use Rattle.std.proofs.Common.{◌≡◌, ℕ, zero, suc, ◌+◌, ◌-◌, ◌*◌, ◌/◌, ◌%◌, ◌^◌, ◌<◌, ◌≤◌, Bool, true, false, cond, ◌&&◌, eqb, ltb, List, get_or, sym, refl, ap, ◌∙◌, ap₂, add-one, one-add, arith}
 use lib.Bits.{bit_and}
 use lib.Count.{ones, ones_step}
-use Rattle.std.proofs.lemmas.Bool.{cases_lt, lt-ltb, le-ltb, and_left, and_right, cond-true, cond-false}
+use Rattle.std.proofs.lemmas.Bool.{lt-ltb, le-ltb, and_right, cond-true, cond-false}
 use Rattle.std.proofs.lemmas.Bool.Decides.{nat_tests}
 use Rattle.std.proofs.lemmas.Nat.{pow-add}
-use Rattle.cover_theory.specs.Rule.{Rel, Side, count, shared, first_best}
+use Rattle.cover_theory.specs.Rule.{Side, count, shared, first_best}
 use Rattle.network_theory.specs.Layout.{bit}
-use Rattle.cover_theory.specs.Rows.{marked, stands_at, conflicts, Tidy, Fit, held, Neat}
+use Rattle.cover_theory.specs.Rows.{marked, stands_at, conflicts, Fit, held, Neat}
 use Rattle.cover_theory.proofs.Digits.{and_bit, half}
 use Rattle.cover_theory.proofs.Grows.{agree}
 

@@ -1,12 +1,12 @@
 -- Degrees, the fullest literal, and scores bounded by degrees.
-use Rattle.std.proofs.Common.{◌≡◌, ℕ, zero, suc, ◌+◌, ◌-◌, ◌*◌, ◌/◌, ◌%◌, ◌^◌, ◌<◌, ◌≤◌, Bool, true, false, cond, not, ◌&&◌, ◌||◌, eqb, ltb, leb, List, [], ◌∷◌, ◌++◌, length, get_or, sym, refl, ap, ◌∙◌, subst, ap₂, ⊎_elim, arith}
+use Rattle.std.proofs.Common.{◌≡◌, ℕ, zero, suc, ◌+◌, ◌*◌, ◌/◌, ◌%◌, ◌^◌, ◌<◌, ◌≤◌, Bool, true, false, cond, not, ◌&&◌, ◌||◌, eqb, ltb, List, get_or, sym, refl, ap, ◌∙◌, ap₂, ⊎_elim, arith}
 use native.Mathlib.Nat.{zero-div}
-use Rattle.std.proofs.lemmas.Bool.{cases_lt, lt-ltb, le-ltb, and_left, and_right, and_parts, and_from, cond_both, cond-true, cond-false, cases_Bool, false≢true, or_parts, or_from, ne_eqb}
+use Rattle.std.proofs.lemmas.Bool.{cases_lt, lt-ltb, le-ltb, and_right, and_parts, and_from, cond_both, false≢true, or_parts, or_from, ne_eqb}
 use Rattle.network_theory.specs.Layout.{bit}
 use Rattle.cover_theory.specs.Rule.{Rel, Side, Sides, count, shared, everyone, nobody, score, first_best, chosen, joined_by, started_by, without_sides}
-use Rattle.cover_theory.specs.Rows.{marked, stands_at, conflicts, Fit, held, Neat, Degrees, SidesIn}
-use Rattle.cover_theory.proofs.Counts.{count_cut, count_same, mask_word}
-use Rattle.cover_theory.proofs.Grows.{agree, past}
+use Rattle.cover_theory.specs.Rows.{marked, stands_at, conflicts, Fit, held, Degrees, SidesIn}
+use Rattle.cover_theory.proofs.Counts.{count_cut, count_same}
+use Rattle.cover_theory.proofs.Grows.{agree}
 
 pub degree_word : (ws : List ℕ) (R u i t : ℕ) → t < 64 → stands_at ws R u (64 * i + t) ≡ bit (get_or ws (u * R + i) 0) t
 degree_word ws R u i t h =

@@ -1,11 +1,10 @@
 -- What stands in words and list once the rule has run to its end, or the list was too short.
-use Rattle.std.proofs.Common.{◌≡◌, ℕ, zero, suc, ◌+◌, ◌-◌, ◌*◌, ◌/◌, ◌%◌, ◌^◌, ◌<◌, ◌≤◌, Bool, true, false, List, [], ◌∷◌, ◌++◌, map, length, get_or, take, drop, replicate, ℤ, pos, sym, refl, ap, ◌∙◌, subst, ap₂, arith}
+use Rattle.std.proofs.Common.{◌≡◌, ℕ, ◌-◌, ◌*◌, ◌^◌, ◌<◌, ◌≤◌, List, [], ◌++◌, length, get_or, take, drop, replicate, ℤ, pos, sym, ap, ◌∙◌, arith}
 use Rattle.std.proofs.lemmas.List.{length-take-le}
 use Rattle.network_theory.specs.Layout.{row_words, words_needed}
-use Rattle.cover_theory.specs.Parts.{Part, Cover}
-use Rattle.cover_theory.specs.Rule.{Rel, ruled, covering, of_literals, cover_of, pairs_from}
+use Rattle.cover_theory.specs.Rule.{Rel, ruled, covering, cover_of, pairs_from}
 use Rattle.cover_theory.specs.Lies.{numbers, list_holding, conflicts_in, words_holding}
-use Rattle.cover_theory.specs.Rows.{stands_at, conflicts, Fit, Went, Flat, told}
+use Rattle.cover_theory.specs.Rows.{conflicts, Went, Flat, told}
 use Rattle.cover_theory.proofs.Grows.{agree}
 use Rattle.cover_theory.proofs.Laid.{flat_covering, laid_words, list_holds, same_conflicts}
 

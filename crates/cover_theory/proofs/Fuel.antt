@@ -1,9 +1,8 @@
 -- Each biclique takes a conflict away, so that the bicliques have ended after N * N of them.
-use Rattle.std.proofs.Common.{◌≡◌, ℕ, zero, suc, ◌+◌, ◌-◌, ◌*◌, ◌<◌, ◌≤◌, Bool, true, false, cond, not, ◌&&◌, ◌||◌, ltb, ◌⊎◌, List, [], sym, refl, ap, ◌∙◌, subst, inl, inr, ⊎_elim, mul-zero, zero-mul, mul-suc, arith}
-use Rattle.std.proofs.lemmas.Bool.{false≢true, cond_both, cases_Bool, cases_eq, and_parts, and_left, and_right, or_left, not_from_true, ltb-true, both_ways}
-use Rattle.std.proofs.lemmas.Nat.{mul-le}
-use Rattle.cover_theory.specs.Parts.{Part, clique, biclique}
-use Rattle.cover_theory.specs.Rule.{Rel, Side, Sides, count, those, grown_sides, without_sides, gains, bicliques, sweep, ruled, also, covering, Ended}
+use Rattle.std.proofs.Common.{◌≡◌, ℕ, zero, suc, ◌+◌, ◌*◌, ◌<◌, ◌≤◌, Bool, true, false, cond, ◌&&◌, [], ap, ◌∙◌, ⊎_elim, mul-zero, zero-mul, mul-suc, arith}
+use Rattle.std.proofs.lemmas.Bool.{cond_both, cases_Bool, cases_eq, and_parts, and_right, or_left, not_from_true, ltb-true}
+use Rattle.cover_theory.specs.Parts.{Part, biclique}
+use Rattle.cover_theory.specs.Rule.{Rel, Side, Sides, count, those, grown_sides, without_sides, gains, bicliques, sweep, also, covering, Ended}
 use Rattle.cover_theory.proofs.Degrees.{count_mono}
 use Rattle.cover_theory.proofs.Splits.{Sided, sided_grown}
 

@@ -1,16 +1,15 @@
 -- The cover as it lies in the list and in the words.
-use Rattle.std.proofs.Common.{◌≡◌, ℕ, zero, suc, ◌+◌, ◌-◌, ◌*◌, ◌/◌, ◌%◌, ◌^◌, ◌<◌, ◌≤◌, Bool, true, false, cond, not, ◌&&◌, ◌||◌, eqb, ltb, leb, List, [], ◌∷◌, ◌++◌, map, length, get_or, take, drop, replicate, ℤ, pos, sym, refl, ap, ◌∙◌, subst, ap₂, ⊎_elim, append_assoc, mul_comm, mul-zero, one-add, arith}
-use Rattle.std.specs.List.{range_with_len}
+use Rattle.std.proofs.Common.{◌≡◌, ℕ, zero, suc, ◌+◌, ◌-◌, ◌*◌, ◌/◌, ◌%◌, ◌^◌, ◌<◌, ◌≤◌, Bool, true, false, cond, ◌&&◌, eqb, ltb, leb, List, [], ◌∷◌, ◌++◌, map, length, get_or, take, drop, replicate, ℤ, pos, sym, refl, ap, ◌∙◌, ap₂, ⊎_elim, append_assoc, mul_comm, mul-zero, one-add, arith}
 use Rattle.std.proofs.lemmas.List.{append-nil, length-append, length-map, length-take-le, length-drop, length-replicate, get_or_default, get_or_append_left, get_or-append_right, get_or-drop, get_or-take, get_or-replicate, same_lists}
 use Rattle.std.proofs.lemmas.List.FromFn.{length-map-range_with_len, get_or-map-range_with_len}
-use Rattle.std.proofs.lemmas.Bool.{cases_lt, lt-ltb, le-ltb}
+use Rattle.std.proofs.lemmas.Bool.{cases_lt, le-ltb}
 use Rattle.std.proofs.lemmas.Bool.Decides.{nat_tests}
 use Rattle.std.proofs.lemmas.Nat.{pow-add, div_below, mod_below, div-add-mod', mul-add-lt}
 use Rattle.logic.specs.Literal.{literal}
-use Rattle.network_theory.specs.Layout.{bit, row_words, words_needed, stands, cleared}
-use Rattle.cover_theory.specs.Parts.{Part, clique, biclique, Cover}
-use Rattle.cover_theory.specs.Rule.{Rel, without, grown, taken, visit, visits, sweep, those, without_sides, grown_sides, gains, bicliques, ruled, also, covering, of_literals, cover_of}
-use Rattle.cover_theory.specs.Lies.{minus, numbers_of, numbers, list_holding, conflicts_in, word, words_holding}
+use Rattle.network_theory.specs.Layout.{bit, row_words, words_needed, cleared}
+use Rattle.cover_theory.specs.Parts.{Part, clique, biclique}
+use Rattle.cover_theory.specs.Rule.{Rel, without, grown, taken, visit, visits, sweep, those, without_sides, grown_sides, gains, bicliques, ruled, also, covering, of_literals}
+use Rattle.cover_theory.specs.Lies.{minus, numbers_of, numbers, word, words_holding}
 use Rattle.cover_theory.specs.Rows.{stands_at, conflicts, listed, Flat, told}
 use Rattle.cover_theory.proofs.Digits.{half}
 

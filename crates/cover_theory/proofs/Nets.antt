@@ -1,12 +1,12 @@
 -- The conflicts of a network as the rule is given them, and the laws of its cover.
-use Rattle.std.proofs.Common.{◌≡◌, ℕ, zero, suc, ◌+◌, ◌-◌, ◌*◌, ◌/◌, ◌%◌, ◌<◌, ◌≤◌, Bool, true, false, cond, not, ◌&&◌, ◌||◌, ltb, ◌⊎◌, ◌↔◌, List, [], ◌∷◌, ◌++◌, map, length, get_or, take, ℤ, Some, None, Option, sym, refl, ap, ◌∙◌, subst, ap₂, inl, inr, ⊎_elim, mul_comm, arith, MatchOption}
+use Rattle.std.proofs.Common.{◌≡◌, ℕ, ◌+◌, ◌*◌, ◌/◌, ◌%◌, ◌<◌, ◌≤◌, Bool, true, false, ltb, ◌↔◌, List, [], length, get_or, take, ℤ, Some, None, Option, sym, refl, ap, ◌∙◌, subst, ap₂, ⊎_elim, mul_comm, arith, MatchOption}
 use Rattle.std.proofs.lemmas.Nat.{mul-add-lt}
-use Rattle.std.proofs.lemmas.Bool.{cases_Bool, cases_lt, and_parts, and_from, ltb-true, lt-ltb, le-ltb, both_ways, and_left, false≢true}
-use Rattle.logic.specs.Literal.{variable, Literal, index, literal}
-use Rattle.logic.proofs.Literals.{index_below, index_literal, variable_literal, literal_index, literal_within}
+use Rattle.std.proofs.lemmas.Bool.{cases_Bool, and_parts, and_from, ltb-true, lt-ltb}
+use Rattle.logic.specs.Literal.{Literal, index, literal}
+use Rattle.logic.proofs.Literals.{index_below, index_literal, variable_literal, literal_within}
 use Rattle.network_theory.specs.Layout.{Net, Conflict, Mutual, Apart, Trimmed, row_words, words_needed, stands, bit}
 use Rattle.cover_theory.specs.Parts.{Partition}
-use Rattle.cover_theory.specs.Rule.{Rel, cover_of, bicliques, sweep, ruled, covering}
+use Rattle.cover_theory.specs.Rule.{cover_of, bicliques, sweep, ruled, covering}
 use Rattle.cover_theory.specs.Lies.{conflicts_in}
 use Rattle.cover_theory.specs.Rows.{stands_at, conflicts, Fit, Went, Flat, told}
 use Rattle.cover_theory.proofs.Splits.{Given, covering_splits}

@@ -1,10 +1,10 @@
 -- The loop that takes biclique after biclique.
-use Rattle.std.proofs.Common.{◌≡◌, ℕ, zero, suc, ◌+◌, ◌-◌, ◌*◌, ◌/◌, ◌%◌, ◌^◌, ◌<◌, ◌≤◌, Bool, true, false, cond, not, ◌&&◌, ◌||◌, eqb, ltb, leb, List, [], ◌∷◌, ◌++◌, map, length, get_or, take, drop, set, ℤ, pos, sym, refl, ap, ◌∙◌, subst, ap₂, ⊎_elim, append_assoc, arith, length-set}
+use Rattle.std.proofs.Common.{◌≡◌, ℕ, zero, suc, ◌+◌, ◌-◌, ◌*◌, ◌<◌, ◌≤◌, Bool, true, false, not, ◌&&◌, ◌||◌, ltb, List, [], ◌∷◌, ◌++◌, map, length, get_or, take, drop, set, ℤ, pos, sym, refl, ap, ◌∙◌, ap₂, ⊎_elim, append_assoc, arith, length-set}
 use Rattle.std.proofs.lemmas.List.{length-append, length-map, length-take-le, take_at, drop_at, drop-drop, take_more_set, drop-set-lt}
-use Rattle.std.proofs.lemmas.Bool.{cond-true, cond-false, cond_both, cases_lt, le-ltb, lt-ltb, and_left}
+use Rattle.std.proofs.lemmas.Bool.{cond-true, cond-false, cond_both, cases_lt, le-ltb, lt-ltb}
 use Rattle.logic.specs.Literal.{literal}
-use Rattle.cover_theory.specs.Parts.{Part, clique, biclique}
-use Rattle.cover_theory.specs.Rule.{Rel, Side, Sides, count, those, without_sides, grown_sides, gains, bicliques}
+use Rattle.cover_theory.specs.Parts.{Part, biclique}
+use Rattle.cover_theory.specs.Rule.{Rel, Sides, count, those, without_sides, grown_sides, gains, bicliques}
 use Rattle.cover_theory.specs.Lies.{minus}
 use Rattle.cover_theory.specs.Rows.{marked, stands_at, conflicts, Fit, held, listed, Flat, told, Went, sides_part}
 use Rattle.cover_theory.proofs.Members.{length_those}

@@ -1,12 +1,12 @@
 -- The cover of the rule is a partition of the conflicts, and a function of them alone.
-use Rattle.std.proofs.Common.{◌≡◌, ℕ, zero, suc, ◌+◌, ◌-◌, ◌*◌, ◌/◌, ◌<◌, ◌≤◌, Bool, true, false, cond, not, ◌&&◌, ◌||◌, ◌≢◌, ◌⊎◌, List, [], ◌∷◌, ◌++◌, map, length, get_or, ℤ, pos, sym, refl, ap, ◌∙◌, subst, ap₂, inl, inr, ⊎_elim, arith}
+use Rattle.std.proofs.Common.{◌≡◌, ℕ, zero, suc, ◌+◌, ◌-◌, ◌*◌, ◌/◌, ◌<◌, ◌≤◌, true, List, [], ◌∷◌, ◌++◌, map, length, ℤ, pos, sym, refl, ap, ◌∙◌, subst, ap₂, inl, inr, ⊎_elim, arith}
 use Rattle.std.proofs.lemmas.List.{length-map}
 use Rattle.std.proofs.lemmas.Bool.{cases_order}
 use Rattle.logic.specs.Literal.{variable, Literal, index, literal}
 use Rattle.logic.specs.Clause.{In}
-use Rattle.logic.proofs.Literals.{index_below, index_literal, variable_literal, literal_index, literal_within}
+use Rattle.logic.proofs.Literals.{index_literal, variable_literal, literal_index, literal_within}
 use Rattle.logic.proofs.Clauses.{in_left, in_right, in_cases}
-use Rattle.cover_theory.specs.Parts.{Part, clique, biclique, Cover, Joins, Remains, DistinctVariables, NoRepeats, Sound, Apart, Once, Partition}
+use Rattle.cover_theory.specs.Parts.{Part, clique, biclique, Joins, Remains, DistinctVariables, NoRepeats, Sound, Apart, Once, Partition}
 use Rattle.cover_theory.specs.Rule.{Rel, those, covering, pairs_from, of_literals, cover_of}
 use Rattle.cover_theory.proofs.Members.{in_map, map_in, get_or_in, those_in, in_those, those_once, map_once}
 use Rattle.cover_theory.proofs.Splits.{Given, Split, SoundAt, ApartAt, Pairwise, covering_splits}

@@ -1,6 +1,6 @@
 -- The sides of a biclique have stopped growing after N literals.
-use Rattle.std.proofs.Common.{◌≡◌, ℕ, zero, suc, ◌+◌, ◌-◌, ◌*◌, ◌<◌, ◌≤◌, Bool, true, false, cond, not, ◌&&◌, ◌||◌, eqb, ltb, ◌⊎◌, sym, refl, ap, ◌∙◌, subst, ap₂, inl, inr, ⊎_elim, mul-zero, arith}
-use Rattle.std.proofs.lemmas.Bool.{false≢true, cond_both, cond-true, cond-false, cases_Bool, cases_eq, cases_lt, and_parts, and_from, or_left, or_right, eq-eqb, lt-ltb, le-ltb, ltb-true, ltb-false, both_ways}
+use Rattle.std.proofs.Common.{◌≡◌, ℕ, zero, suc, ◌+◌, ◌<◌, ◌≤◌, true, false, cond, eqb, ltb, refl, ap, ◌∙◌, subst, ap₂, ⊎_elim, mul-zero, arith}
+use Rattle.std.proofs.lemmas.Bool.{cond_both, cond-true, cond-false, cases_Bool, cases_eq, cases_lt, and_parts, and_from, or_left, or_right, eq-eqb, lt-ltb, le-ltb, ltb-true, ltb-false, both_ways}
 use Rattle.cover_theory.specs.Rule.{Rel, Side, Sides, count, shared, score, first_best, chosen, better, joined_by, widen, nobody, everyone, started_by, grown_sides, Settled}
 use Rattle.cover_theory.proofs.Degrees.{count_mono}
 use Rattle.cover_theory.proofs.Splits.{Sided, sided_join, sided_start}

@@ -1,10 +1,10 @@
 -- Each step of the rule keeps the conflicts split: every one remains or is in exactly one part. Over indices.
-use Rattle.std.proofs.Common.{◌≡◌, ℕ, zero, suc, ◌+◌, ◌-◌, ◌*◌, ◌/◌, ◌<◌, ◌≤◌, Bool, true, false, cond, not, ◌&&◌, ◌||◌, eqb, ltb, leb, ◌≢◌, ◌⊎◌, List, [], ◌∷◌, ◌++◌, map, length, sym, refl, ap, ◌∙◌, subst, inl, inr, ⊎_elim, arith, length-append}
-use Rattle.std.proofs.lemmas.Bool.{false≢true, eqb-true, eq-eqb, or_cases, or_left, or_right, cond_both, cases_Bool, and_parts, and_from, not-true, not_from_false, not_from_true, both_ways, ltb-true, leb-true, lt-ltb}
+use Rattle.std.proofs.Common.{◌≡◌, ℕ, zero, suc, ◌+◌, ◌-◌, ◌*◌, ◌<◌, ◌≤◌, Bool, true, false, cond, not, ◌&&◌, ◌||◌, eqb, ltb, leb, ◌≢◌, ◌⊎◌, List, [], ◌∷◌, ◌++◌, length, sym, refl, ap, ◌∙◌, subst, inl, inr, ⊎_elim, arith, length-append}
+use Rattle.std.proofs.lemmas.Bool.{false≢true, eqb-true, or_cases, or_left, or_right, cond_both, cases_Bool, and_parts, and_from, not-true, not_from_false, both_ways, ltb-true, leb-true}
 use Rattle.logic.specs.Clause.{In}
 use Rattle.logic.proofs.Clauses.{in_left, in_right, in_cases}
 use Rattle.cover_theory.specs.Parts.{Part, clique, biclique, Joins, NoRepeats}
-use Rattle.cover_theory.specs.Rule.{Rel, among, clashes, joins, grow, grown, without, taken, visit, visits, sweep, Side, Sides, count, those, shared, chosen, better, joined_by, widened, widen, nobody, everyone, started_by, grown_sides, without_sides, gains, paired, bicliques, ruled, also, covering}
+use Rattle.cover_theory.specs.Rule.{Rel, among, clashes, joins, grow, grown, without, taken, visit, visits, sweep, Sides, count, those, shared, chosen, better, joined_by, widen, nobody, everyone, started_by, grown_sides, without_sides, gains, bicliques, also, covering}
 use Rattle.cover_theory.proofs.Members.{among_in, in_among, those_in, in_those, length_those, those_once}
 
 -- what the rule is given: conflicts of N literals, both ways, none of a literal with itself

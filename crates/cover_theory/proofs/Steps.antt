@@ -1,11 +1,9 @@
-use Rattle.std.proofs.Common.{◌≡◌, ℕ, zero, suc, ◌+◌, ◌-◌, ◌*◌, ◌/◌, ◌%◌, ◌^◌, ◌<◌, ◌≤◌, min, Bool, true, false, cond, not, ◌&&◌, ◌||◌, leb, List, [], ◌∷◌, ◌++◌, length, get_or, take, set, sym, refl, ap, ◌∙◌, subst, ap₂, arith}
+use Rattle.std.proofs.Common.{◌≡◌, ℕ, zero, suc, ◌+◌, ◌-◌, ◌*◌, ◌/◌, ◌<◌, ◌≤◌, false, ◌&&◌, leb, List, [], ◌∷◌, ◌++◌, length, get_or, take, set, sym, ◌∙◌, subst, arith}
 use lib.Bits.{bit_and}
 use Rattle.std.proofs.lemmas.List.{take_more_set, length-take-le, get_or-take}
-use Rattle.cover_theory.specs.Rule.{Rel, clashes, grow, grown}
-use Rattle.network_theory.specs.Layout.{bit}
+use Rattle.cover_theory.specs.Rule.{clashes, grow, grown}
 use Rattle.cover_theory.specs.Rows.{marked, stands_at, conflicts, Tidy, Loose, Masks, Lowest, Bare}
-use Rattle.cover_theory.proofs.Digits.{and_bit}
-use Rattle.cover_theory.proofs.Grows.{agree, past, c_lt, go_on, ends_on, masks_on, stop_bare, grow_full}
+use Rattle.cover_theory.proofs.Grows.{c_lt, go_on, ends_on, masks_on, stop_bare, grow_full}
 use Rattle.cover_theory.proofs.Starts.{mark_and, two, first_ends, first_masks, first_grown}
 
 -- the state of the loop that grows the clique of u and w, with k members

@@ -1,9 +1,9 @@
-use Rattle.std.proofs.Common.{◌≡◌, ℕ, zero, suc, ◌+◌, ◌-◌, ◌*◌, ◌/◌, ◌%◌, ◌^◌, ◌<◌, ◌≤◌, min, Bool, true, false, cond, not, ◌&&◌, ◌||◌, eqb, ltb, leb, List, [], ◌∷◌, ◌++◌, map, length, get_or, take, drop, set, ℤ, pos, sym, refl, ap, ◌∙◌, subst, ap₂, ⊎_elim, append_assoc, add-one, arith}
+use Rattle.std.proofs.Common.{◌≡◌, ℕ, zero, suc, ◌+◌, ◌-◌, ◌*◌, ◌<◌, ◌≤◌, Bool, true, false, cond, not, ◌&&◌, leb, List, ◌++◌, length, get_or, take, drop, ℤ, sym, refl, ap, ◌∙◌, ap₂, ⊎_elim, append_assoc, add-one, arith}
 use Rattle.std.proofs.lemmas.List.{length-append, length-map, length-take-le, take_at, drop_at, drop-drop}
-use Rattle.std.proofs.lemmas.Bool.{cond-true, cond-false, cases_Bool, cases_lt, both_ways, le-leb, and_left}
+use Rattle.std.proofs.lemmas.Bool.{cond-true, cond-false, cases_lt, both_ways, le-leb, and_left}
 use Rattle.cover_theory.specs.Rule.{Rel, among, without, grown, taken, visit, visits, sweep}
 use Rattle.cover_theory.specs.Parts.{Part, clique}
-use Rattle.cover_theory.specs.Rows.{stands_at, conflicts, Tidy, Loose, listed, told, Flat, Fit, Went, First}
+use Rattle.cover_theory.specs.Rows.{stands_at, conflicts, listed, told, Flat, Fit, Went, First}
 use Rattle.logic.specs.Literal.{literal}
 use Rattle.cover_theory.proofs.Grows.{agree}
 

@@ -1,6 +1,6 @@
 -- Two literals against two have gain 0, and make no part; two against three make a biclique.
-use Rattle.std.specs.Prelude.{◌≡◌, ℕ, ◌+◌, ◌*◌, ◌%◌, Bool, ◌&&◌, ◌||◌, List, [], ◌∷◌, ℤ, pos, ◌==◌, nat_le, nat_lt}
-use Rattle.cover_theory.specs.Parts.{Part, clique, biclique, Cover}
+use Rattle.std.specs.Prelude.{◌≡◌, ℕ, ◌+◌, ◌*◌, ◌%◌, Bool, ◌&&◌, ◌||◌, [], ◌∷◌, pos, ◌==◌, nat_le, nat_lt}
+use Rattle.cover_theory.specs.Parts.{biclique}
 use Rattle.cover_theory.specs.Rule.{Rel, cover_of}
 
 -- u is one of the literals a + 1 to a + k, by index

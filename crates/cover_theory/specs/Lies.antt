@@ -1,8 +1,8 @@
 -- How a cover lies in a list of numbers and in words; how many numbers and parts it has.
-use Rattle.std.specs.Prelude.{◌≡◌, ℕ, zero, suc, ◌+◌, ◌-◌, ◌*◌, ◌/◌, ◌%◌, ◌<◌, ◌≤◌, Bool, true, false, cond, ◌&&◌, List, [], ◌∷◌, ◌++◌, map, length, replicate, ℤ, pos, neg_ℤ, nat_lt}
+use Rattle.std.specs.Prelude.{ℕ, zero, suc, ◌+◌, ◌-◌, ◌*◌, ◌/◌, ◌%◌, Bool, cond, ◌&&◌, List, [], ◌∷◌, ◌++◌, map, length, replicate, ℤ, pos, neg_ℤ, nat_lt}
 use Rattle.std.specs.List.{range_with_len}
 use Rattle.network_theory.specs.Layout.{row_words, words_needed, stands}
-use Rattle.cover_theory.specs.Parts.{Part, clique, biclique, Cover}
+use Rattle.cover_theory.specs.Parts.{Part, clique, biclique}
 use Rattle.cover_theory.specs.Rule.{Rel}
 
 -- minus k

@@ -1,9 +1,9 @@
 -- What the code of the cover keeps true of its words: rows of R words, and masks as long as a row.
-use Rattle.std.specs.Prelude.{◌≡◌, ℕ, zero, suc, ◌+◌, ◌-◌, ◌*◌, ◌/◌, ◌%◌, ◌^◌, ◌<◌, ◌≤◌, Bool, true, false, cond, not, ◌&&◌, ◌||◌, List, [], ◌∷◌, ◌++◌, map, length, take, drop, ℤ, pos, nat_le, nat_lt, slice_index}
+use Rattle.std.specs.Prelude.{◌≡◌, ℕ, ◌+◌, ◌*◌, ◌/◌, ◌%◌, ◌<◌, ◌≤◌, Bool, true, false, ◌&&◌, List, [], ◌∷◌, ◌++◌, map, length, take, drop, ℤ, pos, nat_le, nat_lt, slice_index}
 use Rattle.logic.specs.Literal.{literal}
 use Rattle.network_theory.specs.Layout.{bit}
 use Rattle.cover_theory.specs.Parts.{Part, clique, biclique}
-use Rattle.cover_theory.specs.Rule.{Rel, clashes, Side, Sides, count, those, shared, everyone, widen, grown_sides}
+use Rattle.cover_theory.specs.Rule.{Rel, clashes, Side, Sides, count, those, shared, everyone, widen}
 use Rattle.cover_theory.specs.Lies.{minus}
 
 -- the literal j is in the mask

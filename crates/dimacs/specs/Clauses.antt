@@ -1,5 +1,5 @@
 -- Clauses of any length as a list of numbers: the literals of each, and a closing 0.
-use Rattle.std.specs.Prelude.{ℕ, ◌+◌, ◌-◌, ◌<◌, ◌≤◌, Bool, false, cond, not, ◌||◌, List, [], ◌∷◌, ◌++◌, length, ℤ, pos, ◌==◌, nat_lt, slice_index_or}
+use Rattle.std.specs.Prelude.{ℕ, ◌+◌, ◌-◌, Bool, false, cond, not, ◌||◌, List, [], ◌∷◌, ◌++◌, length, ℤ, pos, ◌==◌, nat_lt, slice_index_or}
 use Rattle.logic.specs.Literal.{variable, Literal}
 
 abbrev pub numbers : List (List ℤ) → List ℤ

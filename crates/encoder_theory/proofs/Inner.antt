@@ -1,9 +1,8 @@
 -- An inner encoder's calls where they are known to be admitted.
-use Rattle.std.proofs.Common.{◌≡◌, ℕ, ◌+◌, ◌-◌, ◌*◌, ◌≤◌, Bool, true, false, cond, leb, List, ◌++◌, map, length, take, drop, ℤ, pos, Ok, Err, Option, sym, refl, ap, ◌∙◌, subst, mul-le-mul, arith}
+use Rattle.std.proofs.Common.{◌≡◌, ℕ, ◌+◌, ◌-◌, ◌*◌, ◌≤◌, true, leb, List, map, length, take, drop, ℤ, pos, Ok, Option, refl, ap, ◌∙◌, mul-le-mul, arith}
 use borrow.Rule.Slice.PartMut.{put_mid}
 use Rattle.std.proofs.lemmas.Bool.{le-leb, cond-true}
 use Rattle.std.proofs.lemmas.List.{length-map, length-drop, take_rest}
-use Rattle.fault.specs.declared.Fault.{Fault}
 use Rattle.logic.specs.Clause.{flat}
 use Rattle.logic.proofs.Clauses.{length_flat}
 use Rattle.encoder_theory.specs.Buffer.{byte, with_block}

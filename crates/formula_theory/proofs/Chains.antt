@@ -1,5 +1,5 @@
 -- Chains in what is written, between original literals, are chains in the conflicts.
-use Rattle.std.proofs.Common.{◌≡◌, ℕ, zero, suc, ◌+◌, ◌-◌, ◌<◌, ◌≤◌, ◌⊎◌, List, [], ◌∷◌, ◌++◌, map, length, ℤ, pos, sym, refl, ap, ◌∙◌, subst, inl, inr, ⊎_elim, arith}
+use Rattle.std.proofs.Common.{◌≡◌, ℕ, zero, suc, ◌+◌, ◌<◌, ◌≤◌, ◌⊎◌, List, [], ◌∷◌, ◌++◌, map, length, ℤ, pos, sym, refl, ap, ◌∙◌, subst, inl, inr, ⊎_elim, arith}
 use lib.IntN.{ℤ_discrete, pos-ne-negsuc}
 use Rattle.logic.specs.Literal.{variable, complement, Literal}
 use Rattle.logic.specs.Clause.{Clause, against, In}

@@ -1,5 +1,5 @@
 -- The written clauses are on original variables and auxiliaries only.
-use Rattle.std.proofs.Common.{ℕ, ◌+◌, ◌<◌, ◌≤◌, ◌⊎◌, List, [], ◌∷◌, map, length, ℤ, pos, refl, subst, inl, inr, ⊎_elim, arith}
+use Rattle.std.proofs.Common.{ℕ, ◌+◌, ◌<◌, ◌≤◌, List, [], ◌∷◌, map, length, ℤ, pos, refl, subst, inl, inr, ⊎_elim, arith}
 use Rattle.logic.specs.Literal.{Literal}
 use Rattle.logic.specs.Clause.{Clause, against, In}
 use Rattle.logic.proofs.Literals.{variable_complement, complement_within}

@@ -1,5 +1,5 @@
 -- The number of conflicts: a cover has each of them once, and so its parts and what remains count them.
-use Rattle.std.specs.Prelude.{◌≡◌, ℕ, ◌+◌, ◌*◌, ◌≤◌, Bool, ◌↔◌, List, [], ◌∷◌, ◌++◌, map, length, ℤ}
+use Rattle.std.specs.Prelude.{◌≡◌, ℕ, ◌*◌, ◌≤◌, Bool, ◌↔◌, List, [], ◌∷◌, ◌++◌, map, length, ℤ}
 use Rattle.encoder_theory.specs.Meaning.{Meaning}
 use Rattle.encoder_theory.specs.Laws.{Lawful}
 use Rattle.network_theory.specs.declared.Call.{Call}

@@ -1,9 +1,8 @@
 -- The squares of the groups' sizes, the members and the square of the groups' number are at most the square of the members.
-use Rattle.std.proofs.Common.{◌≡◌, ℕ, zero, suc, ◌+◌, ◌-◌, ◌*◌, ◌<◌, ◌≤◌, sym, refl, ap, ◌∙◌, subst, ⊎_elim, mul-le-mul_right, suc-mul, mul_comm, add-mul, mul-le-mul, mul-le-mul_left, mul-suc, mul-add, arith}
+use Rattle.std.proofs.Common.{◌≡◌, ℕ, zero, suc, ◌+◌, ◌-◌, ◌*◌, ◌<◌, ◌≤◌, sym, ap, ◌∙◌, subst, ⊎_elim, suc-mul, add-mul, mul-le-mul_left, mul-add, arith}
 use Rattle.std.proofs.lemmas.Bool.{cases_lt}
 use Rattle.layer_theory.specs.Grouping.{Formed, size, sum}
-use Rattle.layer_theory.proofs.Rule.{ends_within, size_some, size_within, rises}
-use Rattle.layer_theory.proofs.Sums.{sum_le}
+use Rattle.layer_theory.proofs.Rule.{size_some}
 
 abbrev pub square : ℕ → ℕ
 square n = n * n

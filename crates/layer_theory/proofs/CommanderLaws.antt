@@ -1,13 +1,13 @@
 -- A commander of 2 or more keeps the laws over any two encoders that do.
-use Rattle.std.proofs.Common.{◌≡◌, ℕ, zero, suc, ◌+◌, ◌-◌, ◌*◌, ◌<◌, ◌≤◌, Bool, true, false, cond, ◌||◌, ltb, leb, ◌≢◌, ◌⊎◌, List, [], ◌∷◌, ◌++◌, length, ℤ, Option, sym, refl, ap, ◌∙◌, subst, inl, inr, ⊎_elim, arith}
+use Rattle.std.proofs.Common.{◌≡◌, ℕ, ◌+◌, ◌*◌, ◌<◌, ◌≤◌, Bool, true, false, cond, ltb, leb, ◌⊎◌, List, length, ℤ, Option, refl, arith}
 use Rattle.std.proofs.lemmas.Bool.{ltb-false, leb-false, cond_both, or_parts}
 use Rattle.logic.specs.Literal.{complement}
 use Rattle.logic.specs.Clause.{Clause, Assignment, In, Satisfies}
 use Rattle.logic.specs.Chain.{Chain}
 use Rattle.encoder_theory.specs.Members.{member, Within, OneTrue, Takes, OnMember, OnAuxiliary}
-use Rattle.encoder_theory.specs.Meaning.{Meaning, Admitted, Admits, most_members}
-use Rattle.encoder_theory.specs.Laws.{Own, Lawful}
-use Rattle.encoder_theory.proofs.Derive.{Core, lawful}
+use Rattle.encoder_theory.specs.Meaning.{Meaning, Admitted, most_members}
+use Rattle.encoder_theory.specs.Laws.{Lawful}
+use Rattle.encoder_theory.proofs.Derive.{lawful}
 use Rattle.layer_theory.specs.Grouping.{groups, start, Formed, size, sum}
 use Rattle.layer_theory.specs.Commander.{grouped, whole, commander}
 use Rattle.layer_theory.proofs.Sums.{sum_le}

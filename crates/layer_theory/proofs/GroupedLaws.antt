@@ -1,5 +1,5 @@
 -- Groups with commanders keep the laws, over any group and top encoder that do.
-use Rattle.std.proofs.Common.{◌≡◌, ℕ, zero, suc, ◌+◌, ◌-◌, ◌*◌, ◌<◌, ◌≤◌, Bool, true, false, ◌≢◌, ◌⊎◌, List, [], ◌∷◌, ◌++◌, length, get_or, ℤ, pos, Some, None, Option, sym, refl, ap, ◌∙◌, subst, inl, inr, ⊎_elim, arith, length-append}
+use Rattle.std.proofs.Common.{◌≡◌, ℕ, ◌+◌, ◌-◌, ◌<◌, ◌≤◌, Bool, true, false, ◌≢◌, ◌⊎◌, List, [], ◌∷◌, ◌++◌, length, ℤ, Some, None, Option, sym, refl, ap, ◌∙◌, subst, inl, inr, ⊎_elim, arith, length-append}
 use Rattle.std.proofs.lemmas.Bool.{cases_Bool, cases_eq, eqb-true, eq-eqb}
 use Rattle.std.proofs.lemmas.List.FromFn.{length-map-range_with_len, get_or-map-range_with_len}
 use Rattle.logic.specs.Literal.{variable, complement}
@@ -9,8 +9,8 @@ use Rattle.logic.proofs.Literals.{variable_complement, complement_complement, co
 use Rattle.logic.proofs.Clauses.{in_left, in_right, in_cases}
 use Rattle.logic.proofs.Chains.{one_step, chain_join, chain_more}
 use Rattle.encoder_theory.specs.Each.{each, table}
-use Rattle.encoder_theory.specs.Members.{member, auxiliary, Proper, Within, at_place, OneTrue, Takes, OnMember, OnAuxiliary}
-use Rattle.encoder_theory.specs.Meaning.{Meaning, Admitted, Admits, most_members, last_end}
+use Rattle.encoder_theory.specs.Members.{member, auxiliary, Within, at_place, OneTrue, Takes, OnMember, OnAuxiliary}
+use Rattle.encoder_theory.specs.Meaning.{Meaning, Admitted, Admits, most_members}
 use Rattle.encoder_theory.specs.Laws.{Own, Lawful}
 use Rattle.encoder_theory.proofs.Each.{in_single, in_each, each_has, length_each}
 use Rattle.layer_theory.specs.Grouping.{Formed, size, sum, group_of, group_place, lies, place_in}

@@ -1,13 +1,13 @@
 -- The members of a group, values one after another, and the commanders.
-use Rattle.std.proofs.Common.{◌≡◌, ℕ, zero, suc, ◌+◌, ◌-◌, ◌*◌, ◌<◌, ◌≤◌, Bool, true, false, ◌≢◌, ◌⊎◌, List, [], ◌∷◌, ◌++◌, length, get_or, take, drop, ℤ, pos, Option, sym, refl, ap, ◌∙◌, subst, inl, inr, ⊎_elim, arith, length-append}
+use Rattle.std.proofs.Common.{◌≡◌, ℕ, ◌+◌, ◌-◌, ◌<◌, ◌≤◌, Bool, false, ◌≢◌, List, ◌++◌, length, drop, ℤ, pos, Option, sym, refl, ap, ◌∙◌, subst, arith, length-append}
 use Rattle.std.proofs.lemmas.List.{length-take-le, length-drop, get_or-take, get_or-drop, get_or_append_left, get_or-append-add}
 use Rattle.std.proofs.lemmas.List.FromFn.{length-map-range_with_len, get_or-map-range_with_len}
 use Rattle.logic.specs.Literal.{variable, complement}
-use Rattle.logic.specs.Clause.{Clause, Assignment, holds, In}
+use Rattle.logic.specs.Clause.{Assignment, holds}
 use Rattle.logic.specs.Chain.{Chain}
 use Rattle.logic.proofs.Literals.{variable_complement}
 use Rattle.encoder_theory.specs.Each.{each}
-use Rattle.encoder_theory.specs.Members.{member, auxiliary, Proper, OneTrue, Takes, OnMember, OnAuxiliary}
+use Rattle.encoder_theory.specs.Members.{member, auxiliary, Proper, OneTrue, Takes, OnMember}
 use Rattle.encoder_theory.specs.Meaning.{Meaning, Admitted, Admits}
 use Rattle.encoder_theory.specs.Laws.{Lawful}
 use Rattle.layer_theory.specs.Grouping.{Formed, size, sum, place_in}

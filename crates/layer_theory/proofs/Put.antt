@@ -1,6 +1,6 @@
 -- What the calls of a layer do to numbers and buffers, group by group.
-use Rattle.std.proofs.Common.{◌≡◌, ℕ, zero, suc, ◌+◌, ◌-◌, ◌*◌, ◌<◌, ◌≤◌, Bool, true, false, cond, List, [], ◌∷◌, ◌++◌, map, length, take, drop, set, ℤ, pos, Option, sym, refl, ap, ◌∙◌, subst, ⊎_elim, append_assoc, suc-mul, mul-le-mul, arith, length-append}
-use Rattle.std.proofs.lemmas.List.{length-map, map-append, take_more_set, length-set}
+use Rattle.std.proofs.Common.{◌≡◌, ℕ, zero, suc, ◌+◌, ◌*◌, ◌<◌, ◌≤◌, Bool, true, false, List, [], ◌∷◌, ◌++◌, map, length, take, set, ℤ, Option, sym, refl, ap, ◌∙◌, subst, ⊎_elim, append_assoc, mul-le-mul, arith, length-append}
+use Rattle.std.proofs.lemmas.List.{length-map, map-append, take_more_set}
 use Rattle.std.proofs.lemmas.List.FromFn.{length-map-range_with_len, map-range_with_len_more}
 use Rattle.std.proofs.lemmas.Bool.{cases_eq, cond-true, cond-false}
 use Rattle.logic.specs.Clause.{Clause, flat}
@@ -12,9 +12,9 @@ use Rattle.encoder_theory.specs.Laws.{Lawful}
 use Rattle.encoder_theory.specs.Buffer.{byte, with_clause, with_block}
 use Rattle.layer_theory.specs.Grouping.{groups, start, Formed, size, sum, group_of, group_place, lies, place_in}
 use Rattle.layer_theory.specs.Commander.{group, group_list, link, links, commanders, grouped, whole, commander}
-use Rattle.layer_theory.proofs.Sums.{sum_part, sum_more, sum_below, each_last, length_each_sum}
-use Rattle.layer_theory.proofs.Rule.{groups_within, size_most, size_within, ends_within, lying, group_is, rises, rule_forms, within_place, within_groups}
-use Rattle.layer_theory.proofs.Parts.{length_group, groups_admit, length_commanders, commander_at}
+use Rattle.layer_theory.proofs.Sums.{sum_part, each_last, length_each_sum}
+use Rattle.layer_theory.proofs.Rule.{groups_within, size_most, size_within, lying, group_is, rule_forms, within_place, within_groups}
+use Rattle.layer_theory.proofs.Parts.{length_group, groups_admit, length_commanders}
 use Rattle.layer_theory.specs.Theorems.{Agree}
 use Rattle.layer_theory.proofs.GroupedLaws.{length_inner, length_lists, length_links, top_admits}
 use Rattle.encoder_theory.proofs.Blocks.{block_more, length_block, block_set, block_clause}

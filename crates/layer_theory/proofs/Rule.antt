@@ -1,10 +1,9 @@
 -- The rule forms groups, and what follows for places and sizes.
-use Rattle.std.proofs.Common.{◌≡◌, ℕ, zero, suc, ◌+◌, ◌-◌, ◌*◌, ◌/◌, ◌%◌, ◌<◌, ◌≤◌, min, Bool, true, false, cond, ◌&&◌, eqb, ltb, leb, ◌≢◌, ◌⊎◌, Some, None, Option, sym, refl, ap, ◌∙◌, subst, inl, inr, ⊎_elim, mul-le-mul_right, mod-lt, suc-mul, div-add-mod', arith}
-use Rattle.std.proofs.lemmas.Bool.{le-leb, lt-leb, leb-true, leb-false, ltb-true, lt-ltb, le-ltb, eq-eqb, ne_eqb, cases_lt, cases_eq, cases_order, cond-true, cond-false, cond_both, cases_Bool, both_ways, and_from, and_parts}
+use Rattle.std.proofs.Common.{◌≡◌, ℕ, zero, suc, ◌+◌, ◌-◌, ◌*◌, ◌<◌, ◌≤◌, true, false, cond, eqb, ltb, leb, ◌⊎◌, Some, None, Option, sym, refl, ap, ◌∙◌, subst, inl, inr, ⊎_elim, mul-le-mul_right, mod-lt, suc-mul, div-add-mod', arith}
+use Rattle.std.proofs.lemmas.Bool.{le-leb, lt-leb, leb-true, ltb-true, lt-ltb, eq-eqb, ne_eqb, cases_lt, cases_eq, cases_order, cond-true, cond-false, cond_both, cases_Bool, both_ways, and_from, and_parts}
 use Rattle.encoder_theory.specs.Members.{Within, at_place}
 use Rattle.layer_theory.specs.Grouping.{groups, start, Formed, size, sum, group_of, group_place, lies, place_in}
 use Rattle.layer_theory.specs.Theorems.{Lying}
-use Rattle.layer_theory.proofs.Sums.{sum_more}
 
 pub rule_forms : (k m : ℕ) → 1 ≤ k → Formed k m (groups k m) (start k m)
 rule_forms k m one =

@@ -1,5 +1,5 @@
 -- The tower keeps the laws, and is a commander of three whose top is the tower itself.
-use Rattle.std.proofs.Common.{◌≡◌, ℕ, zero, suc, ◌+◌, ◌-◌, ◌*◌, ◌<◌, ◌≤◌, Bool, true, false, cond, ◌||◌, ltb, leb, List, ◌++◌, length, ℤ, Option, sym, refl, ap, ◌∙◌, subst, arith}
+use Rattle.std.proofs.Common.{◌≡◌, ℕ, zero, suc, ◌+◌, ◌<◌, ◌≤◌, Bool, true, false, cond, ltb, leb, ◌++◌, length, sym, refl, ap, ◌∙◌, arith}
 use Rattle.std.proofs.lemmas.Bool.{lt-ltb, cond-true, or_left}
 use Rattle.encoder_theory.specs.Each.{each, table}
 use Rattle.encoder_theory.specs.Meaning.{Meaning}
@@ -7,7 +7,7 @@ use Rattle.encoder_theory.specs.Laws.{Lawful}
 use Rattle.encoder_theory.specs.Pairwise.{pairwise}
 use Rattle.encoder_theory.proofs.PairwiseLaws.{pairwise_lawful}
 use Rattle.layer_theory.specs.Grouping.{groups, start, size, sum, group_place, lies, place_in}
-use Rattle.layer_theory.specs.Commander.{group_list, links, commanders, grouped, whole, commander}
+use Rattle.layer_theory.specs.Commander.{group_list, links, commanders, whole, commander}
 use Rattle.layer_theory.specs.Tower.{storeys, tower, over_itself}
 use Rattle.layer_theory.specs.Theorems.{Agree, TowerBuilt}
 use Rattle.layer_theory.proofs.Parts.{length_commanders}

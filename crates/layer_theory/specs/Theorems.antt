@@ -1,6 +1,6 @@
 -- What is shown of the layers.
 use Rattle.std.specs.Prelude.{◌≡◌, ℕ, ◌+◌, ◌<◌, ◌≤◌, List, length, ℤ, Option}
-use Rattle.encoder_theory.specs.Meaning.{Meaning, Equal}
+use Rattle.encoder_theory.specs.Meaning.{Meaning}
 use Rattle.encoder_theory.specs.Laws.{Lawful}
 use Rattle.encoder_theory.specs.Pairwise.{pairwise}
 use Rattle.encoder_theory.specs.Binary.{binary}

@@ -1,5 +1,5 @@
 -- Chains joined and turned round, and what a chain does to the truth of literals.
-use Rattle.std.proofs.Common.{◌≡◌, true, List, ℤ, sym, ap, subst, inl, inr, ⊎_elim}
+use Rattle.std.proofs.Common.{◌≡◌, true, List, ℤ, sym, subst, inl, inr, ⊎_elim}
 use Rattle.logic.specs.Literal.{complement}
 use Rattle.logic.specs.Clause.{Clause, Assignment, holds, In, Satisfies}
 use Rattle.logic.specs.Chain.{Step, Chain, stay, via}

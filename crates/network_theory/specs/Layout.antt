@@ -1,5 +1,5 @@
 -- How conflicts lie in 64-bit words: a square of bits with a row and a column for each literal, by index.
-use Rattle.std.specs.Prelude.{◌≡◌, ℕ, ◌+◌, ◌*◌, ◌/◌, ◌%◌, ◌^◌, ◌<◌, ◌≤◌, Bool, true, false, List, ◌++◌, drop, set, replicate, ℤ, ◌==◌, ◌≢◌, bit_or, slice_index, slice_set}
+use Rattle.std.specs.Prelude.{◌≡◌, ℕ, ◌+◌, ◌*◌, ◌/◌, ◌%◌, ◌^◌, ◌<◌, ◌≤◌, Bool, true, false, List, ◌++◌, drop, replicate, ℤ, ◌==◌, ◌≢◌, bit_or, slice_index, slice_set}
 use Rattle.logic.specs.Literal.{variable, Literal, index}
 
 -- the words of a row: 2n ÷ 64, rounded up

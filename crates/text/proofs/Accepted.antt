@@ -1,5 +1,5 @@
 -- The laws of files, at what a call answered and left.
-use Rattle.std.proofs.Common.{◌≡◌, ℕ, ◌≤◌, List, ◌++◌, length, take, drop, ℤ, IfOk, Some, None, Ok, Err, Option, Result, sym, refl, ap, ◌∙◌, subst, arith}
+use Rattle.std.proofs.Common.{◌≡◌, ℕ, List, length, take, drop, ℤ, IfOk, Some, None, Option, Result, sym, refl, subst}
 use Rattle.std.proofs.lemmas.List.{take_at}
 use Rattle.fault.specs.declared.Fault.{Fault}
 use Rattle.fault.specs.declared.Refusal.{Refusal}

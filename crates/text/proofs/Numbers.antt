@@ -1,6 +1,6 @@
 -- A number's text by its sign and size, and the room that numbers leave.
-use Rattle.std.proofs.Common.{◌≡◌, ℕ, suc, ◌+◌, ◌-◌, ◌<◌, ◌≤◌, Bool, true, false, cond, ◌||◌, ltb, leb, List, [], ◌∷◌, ◌++◌, length, get_or, drop, ℤ, pos, negsuc, nat_abs, Some, None, decimal, Option, sym, refl, ap, ◌∙◌, arith}
-use Rattle.std.proofs.lemmas.List.{length-append, length_push, at_drop_more, at_drop_all, append_assoc}
+use Rattle.std.proofs.Common.{◌≡◌, ℕ, suc, ◌+◌, ◌-◌, ◌<◌, ◌≤◌, Bool, true, false, cond, ◌||◌, leb, List, [], ◌∷◌, ◌++◌, length, get_or, drop, ℤ, pos, negsuc, nat_abs, Some, None, decimal, Option, sym, refl, ap, ◌∙◌, arith}
+use Rattle.std.proofs.lemmas.List.{length-append, length_push, at_drop_more, append_assoc}
 use Rattle.std.proofs.lemmas.Bool.{cond-true, cond-false, lt-ltb, le-ltb}
 use Rattle.std.proofs.lemmas.Bool.Decides.{nat_tests}
 use Rattle.std.specs.List.{flat_map}
@@ -10,7 +10,7 @@ use Rattle.dimacs.specs.Clauses.{closes, closings, exceeds, unclosed}
 use Rattle.dimacs.specs.Written.{spaced}
 use Rattle.dimacs.specs.File.{header_line}
 use Rattle.text.specs.Buffers.{overlaid, negative}
-use Rattle.text.proofs.Buffers.{Wrote, wrote_then, wrote_as, overlaid_append}
+use Rattle.text.proofs.Buffers.{Wrote, overlaid_append}
 
 pub signed_plain : (z : ℤ) → negative z ≡ false → signed_decimal z ≡ decimal (nat_abs z)
 signed_plain (pos n) h = refl

@@ -1,5 +1,5 @@
 -- The bounds that the reader keeps on what it remembers, so that its sums fit.
-use Rattle.std.specs.Prelude.{◌≡◌, ℕ, ◌<◌, ◌≤◌}
+use Rattle.std.specs.Prelude.{ℕ, ◌<◌, ◌≤◌}
 use Rattle.dimacs.specs.declared.Class.{Class}
 use Rattle.dimacs.specs.declared.Class.TheVariants.{Space, OtherBlank, LineFeed, Minus, Digit, C, N, F, P, Other}
 use Rattle.dimacs.specs.declared.Machine.{Machine}

@@ -1,11 +1,11 @@
 -- A call from its checks to its end.
-use Rattle.std.proofs.Common.{◌≡◌, ℕ, ◌+◌, ◌*◌, ◌<◌, ◌≤◌, Bool, true, false, cond, not, ◌&&◌, ◌||◌, eqb, List, ◌++◌, length, take, drop, replicate, ℤ, pos, ◌+ℤ◌, nat_abs, Some, None, Ok, Err, Option, Result, sym, refl, ap, ◌∙◌, subst, ap₂, arith}
+use Rattle.std.proofs.Common.{◌≡◌, ℕ, ◌*◌, ◌<◌, ◌≤◌, Bool, true, false, cond, not, ◌&&◌, ◌||◌, eqb, List, length, take, replicate, ℤ, pos, Some, None, Ok, Err, Option, Result, sym, refl, ap, ◌∙◌, subst, arith}
 use Rattle.std.proofs.lemmas.Bool.{ltb-false, eqb-true, or_from}
 use Rattle.std.specs.Option.{option_map}
 use Rattle.fault.specs.declared.Fault.{Fault}
 use Rattle.encoder_theory.specs.Meaning.{Meaning, last_end}
 use Rattle.encoder_theory.specs.Laws.{Lawful}
-use Rattle.network_theory.specs.Layout.{Net, Conflict, Mutual, Apart, words_needed, cleared}
+use Rattle.network_theory.specs.Layout.{Net, Conflict, Mutual, Apart, cleared}
 use Rattle.cover_theory.specs.Parts.{Cover, Partition}
 use Rattle.network_theory.specs.declared.Call.{Call}
 use Rattle.network_theory.specs.Runs.{Came}
@@ -22,7 +22,7 @@ use Rattle.formula_theory.proofs.Promised.{faithfulness}
 use Rattle.formula_theory.proofs.Completions.{completion}
 use Rattle.writing_theory.specs.Completing.{valued_answer, put_values, late_complete, completed_answer, completed_leaves}
 use Rattle.writing_theory.specs.declared.Numbers.{Numbers}
-use Rattle.writing_theory.specs.Covering.{numbers_of, terms_answer, covered_words, Covering, past_end, measured, put, late_write, written_answer, written_leaves}
+use Rattle.writing_theory.specs.Covering.{numbers_of, terms_answer, covered_words, Covering, measured, put, late_write, written_answer, written_leaves}
 use Rattle.writing_theory.proofs.Ends.{covering_left, early_no, early_yes, cover_no, cover_yes, three_passed, third_refused, early_kept, cover_kept, at_covered, past_same, first_above, end_small}
 
 module _ (n : ℕ) (ws : List ℕ) (M : Meaning) (first last : ℤ) (old : List ℕ) (ol : List ℤ) where

@@ -1,5 +1,5 @@
 -- Completing: the values of one part after another, and from a cover that stands to what is answered and left.
-use Rattle.std.proofs.Common.{◌≡◌, ℕ, ◌+◌, ◌-◌, ◌*◌, ◌<◌, ◌≤◌, Bool, true, false, cond, ltb, List, [], ◌∷◌, ◌++◌, map, length, take, drop, set, ℤ, pos, is_some, Some, None, Ok, Err, Option, Result, sym, refl, ap, ◌∙◌, subst, arith, length-append}
+use Rattle.std.proofs.Common.{◌≡◌, ℕ, ◌+◌, ◌<◌, ◌≤◌, Bool, true, false, cond, ltb, List, [], ◌∷◌, ◌++◌, map, length, take, drop, set, ℤ, is_some, Some, None, Ok, Err, Option, Result, sym, refl, ap, ◌∙◌, subst, arith}
 use Rattle.std.proofs.lemmas.List.{append-nil, length-map, map-append}
 use Rattle.std.proofs.lemmas.Bool.{ltb-false}
 use Rattle.std.specs.Option.{option_map}
@@ -16,7 +16,7 @@ use Rattle.cover.specs.Walk.{placed}
 use Rattle.cover.specs.declared.Part.{Part as Placed}
 use Rattle.cover.specs.declared.Part.TheVariants.{Clique, Biclique}
 use Rattle.formula_theory.specs.declared.Size.{Size}
-use Rattle.formula_theory.specs.Writing.{part_auxiliaries, over_parts, true_place, some_true, part_values, values_from, auxiliary_count, auxiliary_values}
+use Rattle.formula_theory.specs.Writing.{part_auxiliaries, over_parts, true_place, part_values, values_from, auxiliary_count, auxiliary_values}
 use Rattle.formula_theory.specs.Outcome.{exhausted_fault, buffer_fault, broken_fault, buffer_short, first_broken, assignment_of, unless_refused, kept_if_refused}
 use Rattle.formula_theory.proofs.Models.{length_values}
 use Rattle.formula_theory.proofs.Splits.{values_from_append}
@@ -25,7 +25,7 @@ use Rattle.writing_theory.specs.Listed.{Stands, Listed, takes, ends, totals, Wal
 use Rattle.writing_theory.specs.Covering.{past_end}
 use Rattle.writing_theory.specs.Completing.{Roomy, ValuesSoFar, put_values, late_complete, completed_answer, completed_leaves}
 use Rattle.encoder_theory.proofs.Blocks.{block_none, block_start, block_more, block_set, length_block}
-use Rattle.writing_theory.proofs.Walks.{over_append, over_push, turn, turn_ends, turn_auxiliaries, next_over, walk_next, walk_start, walk_end}
+use Rattle.writing_theory.proofs.Walks.{over_push, turn, turn_ends, turn_auxiliaries, next_over, walk_next, walk_start, walk_end}
 use Rattle.writing_theory.proofs.Puts.{in_front, read_clique, read_biclique, turn_read}
 use Rattle.writing_theory.proofs.Covered.{checked_no, checked_yes, refused_is, passed_is}
 use Rattle.writing_theory.proofs.Values.{some_place, literals_in}

@@ -1,23 +1,23 @@
 -- From a cover that stands to what is answered and left.
-use Rattle.std.proofs.Common.{◌≡◌, ℕ, zero, suc, ◌+◌, ◌-◌, ◌*◌, ◌<◌, ◌≤◌, Bool, true, false, cond, ltb, List, [], ◌∷◌, ◌++◌, map, length, take, drop, ℤ, pos, Some, None, Ok, Err, Option, Result, sym, refl, ap, ◌∙◌, subst, append_assoc, arith, length-append}
-use Rattle.std.proofs.lemmas.Bool.{cond-true, cond-false, ltb-false}
+use Rattle.std.proofs.Common.{◌≡◌, ℕ, ◌+◌, ◌*◌, ◌<◌, ◌≤◌, Bool, true, false, cond, ltb, List, [], ◌∷◌, ◌++◌, length, drop, ℤ, Some, None, Ok, Err, Option, Result, sym, refl, ap, ◌∙◌, append_assoc, arith}
+use Rattle.std.proofs.lemmas.Bool.{ltb-false}
 use Rattle.fault.specs.declared.Fault.{Fault}
-use Rattle.logic.specs.Clause.{Clause, In, flat}
+use Rattle.logic.specs.Clause.{flat}
 use Rattle.logic.proofs.Clauses.{length_flat, flat_append}
 use Rattle.encoder_theory.specs.Meaning.{Meaning, last_end}
 use Rattle.encoder_theory.specs.Laws.{Lawful}
 use Rattle.network_theory.specs.Layout.{row_words}
 use Rattle.cover_theory.specs.Parts.{Part, Cover}
 use Rattle.cover_theory.specs.Rule.{pairs_from}
-use Rattle.cover_theory.specs.Rows.{conflicts, Fit}
+use Rattle.cover_theory.specs.Rows.{conflicts}
 use Rattle.formula_theory.specs.declared.Size.{Size}
-use Rattle.formula_theory.specs.Writing.{part_size, part_auxiliaries, part_clauses, over_parts, clauses_from, conflict_clauses, written_clauses, auxiliary_count, clause_count, Numbered}
+use Rattle.formula_theory.specs.Writing.{part_size, part_auxiliaries, part_clauses, over_parts, clauses_from, conflict_clauses, written_clauses, auxiliary_count, clause_count}
 use Rattle.formula_theory.specs.Outcome.{exhausted_fault, buffer_fault, buffer_short, unless_refused, kept_if_refused, size_of}
 use Rattle.formula_theory.proofs.Counts.{length_written}
 use Rattle.writing_theory.specs.declared.Numbers.{Numbers}
 use Rattle.encoder_theory.specs.Buffer.{with_block}
-use Rattle.writing_theory.specs.Listed.{Listed, Writable, totals, parts_clauses, most_total}
-use Rattle.writing_theory.specs.Covering.{Covering, Ready, put, past_end, late_measure, late_write, measured, written_answer, written_leaves}
+use Rattle.writing_theory.specs.Listed.{totals, parts_clauses, most_total}
+use Rattle.writing_theory.specs.Covering.{Covering, Ready, put, past_end, measured, written_answer, written_leaves}
 use Rattle.encoder_theory.proofs.Blocks.{block_more}
 
 -- the parts' clauses, then those of what remains

@@ -1,12 +1,12 @@
 -- What the cover leaves in words and list, as the writing of it needs it.
-use Rattle.std.proofs.Common.{◌≡◌, ℕ, zero, suc, ◌+◌, ◌-◌, ◌*◌, ◌/◌, ◌%◌, ◌^◌, ◌<◌, ◌≤◌, Bool, true, false, cond, not, ◌&&◌, eqb, ltb, ◌⊎◌, List, [], ◌∷◌, ◌++◌, map, length, get_or, take, drop, ℤ, pos, sym, refl, ap, ◌∙◌, subst, ap₂, inl, inr, ⊎_elim, mul_comm, arith, length-append}
-use Rattle.std.proofs.lemmas.List.{length-drop, get_or_append_left, take_at}
+use Rattle.std.proofs.Common.{◌≡◌, ℕ, zero, suc, ◌+◌, ◌*◌, ◌/◌, ◌%◌, ◌^◌, ◌<◌, ◌≤◌, Bool, true, false, cond, ◌&&◌, eqb, ltb, List, ◌++◌, length, get_or, drop, sym, refl, ap, ◌∙◌, subst, ap₂, ⊎_elim, mul_comm, arith, length-append}
+use Rattle.std.proofs.lemmas.List.{get_or_append_left}
 use Rattle.std.proofs.lemmas.List.FromFn.{length-map-range_with_len, get_or-map-range_with_len}
-use Rattle.std.proofs.lemmas.Bool.{cases_lt, cases_Bool, eq-eqb, and_parts, and_from, ltb-true, lt-ltb, le-ltb, false≢true}
+use Rattle.std.proofs.lemmas.Bool.{cases_lt, cases_Bool, eq-eqb, and_parts, ltb-true, lt-ltb, le-ltb}
 use Rattle.std.proofs.lemmas.Bool.Decides.{nat_tests}
 use Rattle.std.proofs.lemmas.Nat.{div-mul-add, div-add-mod', mul-add-lt}
-use Rattle.logic.specs.Literal.{variable, Literal, index, literal}
-use Rattle.logic.proofs.Literals.{index_literal, variable_literal, literal_within}
+use Rattle.logic.specs.Literal.{literal}
+use Rattle.logic.proofs.Literals.{index_literal, literal_within}
 use Rattle.network_theory.specs.Layout.{Net, Conflict, Apart, bit, row_words, words_needed, stands}
 use Rattle.cover_theory.specs.Rule.{Rel}
 use Rattle.cover_theory.specs.Lies.{conflicts_in, word, words_holding}

@@ -1,29 +1,25 @@
 -- From the answers of the checks and of the cover to the answer of a call, and to what it leaves.
-use Rattle.std.proofs.Common.{◌≡◌, ℕ, zero, suc, ◌+◌, ◌-◌, ◌*◌, ◌<◌, ◌≤◌, Bool, true, false, cond, not, ◌&&◌, ◌||◌, ltb, leb, ◌⊎◌, ◌↔◌, List, [], ◌∷◌, ◌++◌, map, length, get_or, take, drop, replicate, ℤ, pos, negsuc, ◌+ℤ◌, nat_abs, Some, None, Ok, Err, Option, Result, sym, refl, ap, ◌∙◌, subst, ap₂, inl, inr, ⊎_elim, mul-le-mul, arith, length-append}
+use Rattle.std.proofs.Common.{◌≡◌, ℕ, zero, suc, ◌-◌, ◌*◌, ◌<◌, ◌≤◌, Bool, true, false, cond, ◌&&◌, ◌||◌, leb, List, ◌++◌, length, take, drop, replicate, ℤ, pos, negsuc, ◌+ℤ◌, nat_abs, Some, Ok, Err, Option, Result, sym, refl, ap, ◌∙◌, ap₂, ⊎_elim, mul-le-mul, arith}
 use lib.Signed.{lt_z, le_z}
 use Rattle.std.proofs.lemmas.Int.{ints}
-use Rattle.std.proofs.lemmas.List.{take_at, length-replicate}
-use Rattle.std.proofs.lemmas.Bool.{cond-true, cond-false, and_parts, and_from, ltb-false, leb-true, le-leb, lt-ltb, cases_lt}
+use Rattle.std.proofs.lemmas.List.{take_at}
+use Rattle.std.proofs.lemmas.Bool.{and_parts, and_from, ltb-false, le-leb, cases_lt}
 use Rattle.fault.specs.declared.Fault.{Fault}
-use Rattle.logic.specs.Literal.{variable, Literal, is_literal, index, literal}
-use Rattle.logic.specs.Clause.{In}
+use Rattle.logic.specs.Literal.{is_literal, index}
 use Rattle.logic.proofs.Literals.{is_literal_decides}
 use Rattle.encoder_theory.specs.Meaning.{Meaning, last_end}
 use Rattle.encoder_theory.specs.Laws.{Lawful}
-use Rattle.network_theory.specs.Layout.{Net, Conflict, Mutual, Apart, row_words, words_needed, stands, cleared}
-use Rattle.cover_theory.specs.Parts.{Part, Cover, Partition}
-use Rattle.cover_theory.specs.Rule.{Rel, covering, cover_of, pairs_from}
+use Rattle.network_theory.specs.Layout.{Net, Conflict, Mutual, Apart, words_needed, stands}
+use Rattle.cover_theory.specs.Parts.{Cover, Partition}
+use Rattle.cover_theory.specs.Rule.{covering, cover_of, pairs_from}
 use Rattle.cover_theory.specs.Lies.{conflicts_in, words_holding, numbers, list_holding}
-use Rattle.cover_theory.specs.Rows.{conflicts, Fit}
-use Rattle.formula_theory.specs.declared.Size.{Size}
-use Rattle.formula_theory.specs.Writing.{auxiliary_count, clause_count, over_parts, part_size, part_auxiliaries}
-use Rattle.formula_theory.specs.Faithful.{Conflicts, Told, conflict_count}
-use Rattle.formula_theory.specs.Outcome.{Terms, terms, most_auxiliary, words_fault, range_fault, list_fault, exhausted_fault, buffer_fault, words_short, range_unfit, list_short, exhausted, buffer_short, unless_refused, kept_if_refused, size_of, measure_answer, write_answer, write_leaves, early_refused, start}
+use Rattle.formula_theory.specs.Writing.{auxiliary_count, clause_count}
+use Rattle.formula_theory.specs.Faithful.{Conflicts, Told}
+use Rattle.formula_theory.specs.Outcome.{terms, most_auxiliary, range_unfit, exhausted, unless_refused}
 use Rattle.formula_theory.proofs.Counts.{account_balances}
 use Rattle.formula_theory.proofs.Counted.{conflicts_counted, few_auxiliaries}
-use Rattle.writing_theory.specs.declared.Numbers.{Numbers}
-use Rattle.writing_theory.specs.Listed.{Listed, most_total}
-use Rattle.writing_theory.specs.Covering.{numbers_of, range_answer, terms_answer, Covering, past_end, measured, written_answer, written_leaves, put, late_write, late_measure}
+use Rattle.writing_theory.specs.Listed.{most_total}
+use Rattle.writing_theory.specs.Covering.{numbers_of, Covering, past_end}
 use Rattle.writing_theory.proofs.Covers.{held_fit, held_conflicts, remains_below, remains_loose}
 
 -- ---- how much a cover takes

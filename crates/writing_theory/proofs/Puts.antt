@@ -1,17 +1,16 @@
 -- Putting the clauses of parts into a buffer, one part after another.
-use Rattle.std.proofs.Common.{◌≡◌, ℕ, zero, suc, ◌+◌, ◌-◌, ◌*◌, ◌<◌, ◌≤◌, List, [], ◌∷◌, ◌++◌, map, length, get_or, take, drop, ℤ, pos, sym, refl, ap, ◌∙◌, subst, inl, inr, append_assoc, arith, length-append}
-use Rattle.std.proofs.lemmas.List.{append-nil, length-drop, length-map, drop_at, drop-drop, take_at, take_more, map_push, take_all, length-take-le}
+use Rattle.std.proofs.Common.{◌≡◌, ℕ, zero, suc, ◌+◌, ◌*◌, ◌<◌, ◌≤◌, List, [], ◌∷◌, ◌++◌, map, length, get_or, take, drop, ℤ, pos, sym, refl, ap, ◌∙◌, subst, inl, inr, append_assoc, arith}
+use Rattle.std.proofs.lemmas.List.{append-nil, length-map, drop_at, drop-drop, take_at, take_more, map_push, take_all, length-take-le}
 use Rattle.logic.specs.Literal.{variable, Literal}
 use Rattle.logic.specs.Clause.{In, Clause, flat}
 use Rattle.logic.proofs.Clauses.{length_flat, flat_append}
 use Rattle.encoder_theory.specs.Members.{member}
-use Rattle.encoder_theory.specs.Meaning.{Meaning, Admits, most_members, last_end}
+use Rattle.encoder_theory.specs.Meaning.{Meaning, Admits, last_end}
 use Rattle.encoder_theory.specs.Laws.{Lawful}
 use Rattle.encoder_theory.specs.Buffer.{with_clause, with_block}
 use Rattle.cover_theory.specs.Parts.{Part, clique, biclique, Sound, Cover}
-use Rattle.cover_theory.specs.Lies.{minus, numbers_of, numbers}
 use Rattle.formula_theory.specs.declared.Size.{Size}
-use Rattle.formula_theory.specs.Writing.{chosen, part_size, part_auxiliaries, over_parts, part_clauses, clauses_from, Numbered}
+use Rattle.formula_theory.specs.Writing.{chosen, part_size, part_auxiliaries, over_parts, part_clauses}
 use Rattle.formula_theory.proofs.Pieces.{clique_admitted}
 use Rattle.formula_theory.proofs.Counts.{length_written}
 use Rattle.cover.specs.Walk.{placed}
@@ -19,7 +18,7 @@ use Rattle.cover.specs.declared.Part.{Part as Placed}
 use Rattle.cover.specs.declared.Part.TheVariants.{Clique, Biclique}
 use Rattle.writing_theory.specs.Listed.{Stands, Listed, takes, ends, parts_clauses, Walked, Next, read_part, SoundBelow, Writable, PutSoFar}
 use Rattle.encoder_theory.proofs.Blocks.{block_none, block_more, block_clause, length_block}
-use Rattle.writing_theory.proofs.Walks.{over_append, over_push, in_middle, turn, turn_is, turn_ends, turn_takes, turn_clauses, turn_auxiliaries, next_sound, next_over, next_stands, walk_next, walk_start, walk_end, stands_within}
+use Rattle.writing_theory.proofs.Walks.{over_append, over_push, turn, turn_is, turn_ends, turn_clauses, turn_auxiliaries, next_sound, next_over, next_stands, walk_next, walk_start, walk_end}
 
 -- ---- a clause for each number of a list
 pub each_step : (f : ℤ → Clause) (xs : List ℤ) (i at : ℕ) (old buf : List ℤ) → i < length xs → at + 2 * length xs ≤ length old

@@ -1,12 +1,12 @@
 -- Writing the conflicts that remain: row after row, conflict after conflict.
-use Rattle.std.proofs.Common.{◌≡◌, ℕ, zero, suc, ◌+◌, ◌-◌, ◌*◌, ◌<◌, ◌≤◌, Bool, true, false, cond, ◌&&◌, ltb, ◌⊎◌, List, [], ◌∷◌, ◌++◌, map, length, take, drop, ℤ, pos, sym, refl, ap, ◌∙◌, subst, inl, inr, ⊎_elim, append_assoc, add-one, arith, length-append}
-use Rattle.std.proofs.lemmas.List.{append-nil, length-map, length-take-le, length-drop, drop-drop, take_at, drop_at, take-append-drop, map-append}
+use Rattle.std.proofs.Common.{◌≡◌, ℕ, zero, suc, ◌+◌, ◌-◌, ◌*◌, ◌<◌, ◌≤◌, true, false, ◌&&◌, ltb, List, [], ◌∷◌, ◌++◌, map, length, take, drop, ℤ, sym, refl, ap, ◌∙◌, subst, ⊎_elim, append_assoc, add-one, arith, length-append}
+use Rattle.std.proofs.lemmas.List.{append-nil, length-map, length-take-le, drop-drop, take_at, drop_at, map-append}
 use Rattle.std.proofs.lemmas.Bool.{cond-true, cond-false, cases_eq, cases_lt, lt-ltb}
 use Rattle.logic.specs.Literal.{literal}
 use Rattle.logic.specs.Clause.{Clause, against, flat}
 use Rattle.logic.proofs.Clauses.{length_flat, flat_append}
 use Rattle.encoder_theory.specs.Buffer.{with_clause, with_block}
-use Rattle.encoder_theory.proofs.Buffers.{Partway, begun, ended, rest_is, clause_put}
+use Rattle.encoder_theory.proofs.Buffers.{Partway, ended, rest_is, clause_put}
 use Rattle.cover_theory.specs.Rule.{Rel, Side, those, pairs_from}
 use Rattle.cover_theory.specs.Rows.{stands_at, conflicts, Fit, First}
 use Rattle.formula_theory.specs.Writing.{conflict_clauses}

@@ -1,9 +1,9 @@
 -- Values that tell which literals are true, and the first conflict that they break.
-use Rattle.std.proofs.Common.{◌≡◌, ℕ, zero, suc, ◌+◌, ◌-◌, ◌*◌, ◌<◌, ◌≤◌, Bool, true, false, cond, ◌&&◌, ◌||◌, leb, ◌⊎◌, List, [], ◌∷◌, length, get_or, drop, ℤ, pos, is_some, Some, None, Option, sym, refl, ap, ◌∙◌, subst, inl, inr, ⊎_elim, add-one, arith}
+use Rattle.std.proofs.Common.{◌≡◌, ℕ, zero, suc, ◌+◌, ◌-◌, ◌*◌, ◌<◌, ◌≤◌, Bool, true, false, cond, ◌&&◌, ◌||◌, leb, List, [], ◌∷◌, length, get_or, drop, ℤ, is_some, Some, None, Option, sym, refl, ap, ◌∙◌, subst, inl, inr, ⊎_elim, add-one, arith}
 use Rattle.std.proofs.lemmas.List.{at_drop_more, at_drop_all}
 use Rattle.std.proofs.lemmas.Bool.{cond-true, cond-false, cases_eq, and_left, and_right, and_from, lt-leb, le-leb}
 use Rattle.std.specs.Option.{option_map}
-use Rattle.logic.specs.Literal.{variable, Literal, literal}
+use Rattle.logic.specs.Literal.{Literal, literal}
 use Rattle.logic.specs.Clause.{Assignment, In, holds}
 use Rattle.encoder_theory.specs.Members.{member}
 use Rattle.cover_theory.specs.Rule.{Rel}

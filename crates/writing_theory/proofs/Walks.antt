@@ -1,20 +1,17 @@
 -- Walking along the part list.
-use Rattle.std.proofs.Common.{◌≡◌, ℕ, zero, suc, ◌+◌, ◌-◌, ◌*◌, ◌<◌, ◌≤◌, Bool, true, false, List, [], ◌∷◌, ◌++◌, length, get_or, take, drop, ℤ, pos, neg_ℤ, nat_abs, Some, sym, refl, ap, ◌∙◌, subst, inl, inr, append_assoc, arith, length-append}
-use lib.Signed.{lt_z}
-use Rattle.std.proofs.lemmas.Bool.{lt-ltb}
-use Rattle.std.proofs.lemmas.List.{append-nil, length-drop, drop_at, drop-drop, get_or-drop, take_at}
-use Rattle.logic.specs.Clause.{In, Clause}
-use Rattle.encoder_theory.specs.Meaning.{Meaning, most_members}
+use Rattle.std.proofs.Common.{◌≡◌, ℕ, ◌+◌, ◌<◌, ◌≤◌, List, [], ◌∷◌, ◌++◌, length, drop, ℤ, Some, sym, refl, ap, ◌∙◌, subst, inl, inr, append_assoc, arith, length-append}
+use Rattle.std.proofs.lemmas.List.{append-nil, length-drop, drop_at, drop-drop}
+use Rattle.logic.specs.Clause.{In}
+use Rattle.encoder_theory.specs.Meaning.{Meaning}
 use Rattle.cover_theory.specs.Parts.{Part, clique, biclique, Sound}
-use Rattle.cover_theory.specs.Lies.{minus, numbers_of, numbers}
+use Rattle.cover_theory.specs.Lies.{numbers_of, numbers}
 use Rattle.formula_theory.specs.declared.Size.{Size}
-use Rattle.formula_theory.specs.Writing.{part_size, part_auxiliaries, over_parts, part_clauses, clauses_from}
+use Rattle.formula_theory.specs.Writing.{part_size, part_auxiliaries, over_parts}
 use Rattle.cover_theory.specs.Rows.{Sized}
 use Rattle.cover.specs.Walk.{placed, part_at}
 use Rattle.cover.proofs.Walks.{part_here}
 use Rattle.cover.specs.declared.Part.{Part as Placed}
-use Rattle.cover.specs.declared.Part.TheVariants.{Clique, Biclique}
-use Rattle.writing_theory.specs.Listed.{Filled, Stands, Listed, Moderate, takes, ends, totals, parts_clauses, Walked, Next, Takes, most_total}
+use Rattle.writing_theory.specs.Listed.{Filled, Stands, Listed, Moderate, takes, ends, Walked, Next, Takes, most_total}
 
 pub over_append : (f : Part ℤ → ℕ) (Ps Qs : List (Part ℤ)) → over_parts f (Ps ++ Qs) ≡ over_parts f Ps + over_parts f Qs
 over_append f [] Qs = omega arith

@@ -1,5 +1,5 @@
 -- From a cover in the list and the work words to the answer of a call.
-use Rattle.std.specs.Prelude.{◌≡◌, ℕ, ◌+◌, ◌*◌, ◌≤◌, Bool, cond, ◌||◌, List, ◌++◌, length, drop, ℤ, pos, ◌+ℤ◌, Some, None, Ok, Err, Option, Result, nat_lt, unsigned_abs}
+use Rattle.std.specs.Prelude.{◌≡◌, ℕ, ◌+◌, ◌*◌, ◌≤◌, Bool, cond, List, ◌++◌, length, drop, ℤ, pos, ◌+ℤ◌, Some, None, Ok, Err, Option, Result, nat_lt, unsigned_abs}
 use Rattle.fault.specs.declared.Fault.{Fault}
 use Rattle.logic.specs.Clause.{flat}
 use Rattle.encoder_theory.specs.Meaning.{Meaning}

@@ -7,7 +7,6 @@ use Rattle.cover_theory.specs.Lies.{numbers_of, numbers}
 use Rattle.formula_theory.specs.declared.Size.{Size}
 use Rattle.formula_theory.specs.Writing.{chosen, part_size, part_auxiliaries, over_parts, clauses_from}
 use Rattle.encoder_theory.specs.Buffer.{with_block}
-use Rattle.cover.specs.Walk.{placed}
 use Rattle.cover.specs.declared.Part.{Part as Placed}
 use Rattle.cover.specs.declared.Part.TheVariants.{Clique, Biclique}
 

@@ -1,5 +1,5 @@
 -- The clauses of the conflicts that remain, row by row.
-use Rattle.std.specs.Prelude.{◌≡◌, ℕ, suc, ◌+◌, ◌-◌, ◌*◌, ◌≤◌, List, map, length, ℤ}
+use Rattle.std.specs.Prelude.{ℕ, ◌-◌, List, map}
 use Rattle.logic.specs.Literal.{literal}
 use Rattle.logic.specs.Clause.{Clause}
 use Rattle.cover_theory.specs.Rule.{Rel, those}

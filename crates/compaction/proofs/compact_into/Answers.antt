@@ -1,15 +1,13 @@
-use Rattle.std.proofs.Common.{◌≡◌, ℕ, ◌-◌, ◌≤◌, false, ltb, List, [], ◌∷◌, ◌++◌, length, take, drop, ℤ, pos, Some, Ok, Err, Result, sym, refl, ap, ◌∙◌, subst, arith, rules}
+use Rattle.std.proofs.Common.{◌≡◌, ℕ, ◌-◌, false, ltb, List, length, take, ℤ, pos, Some, sym, ap, ◌∙◌, subst, arith}
 use Rattle.std.proofs.lemmas.List.{length-take, length-replicate}
 use Rattle.std.proofs.lemmas.Result.{IfOk-weaker}
 use Rattle.std.proofs.lemmas.Bool.{le-ltb}
-use Rattle.fault.specs.Fault.{fault_text}
-use Rattle.fault.specs.declared.Fault.{Fault}
 use Rattle.dimacs.specs.declared.Summary.{Summary}
 use Rattle.dimacs.specs.Reading.{Reading, reading}
 use Rattle.compaction_theory.specs.Sorted.{clauses_in}
 use Rattle.compaction_theory.specs.Choices.{most_bytes, meaning_of, number_room, choice_of, first_line}
 use Rattle.compaction_theory.specs.declared.Choice.{Choice}
-use Rattle.compaction_theory.specs.Printed.{blank, compacted_text, outcome, printed}
+use Rattle.compaction_theory.specs.Printed.{blank, compacted_text, printed}
 use Rattle.compaction_theory.specs.Account.{account_of}
 use Rattle.compaction_theory.specs.Walks.{TakenNumbers}
 use Rattle.compaction_theory.specs.Written.{read_within}

@@ -1,4 +1,4 @@
-use Rattle.std.proofs.Common.{◌≡◌, ℕ, ◌+◌, ◌*◌, ◌<◌, ◌≤◌, List, length, ℤ, Some, None, vec_items, sym, refl, ap, ◌∙◌, subst, arith, rules}
+use Rattle.std.proofs.Common.{◌≡◌, ℕ, ◌+◌, ◌*◌, List, length, ℤ, Some, None, vec_items, sym, refl, ap, ◌∙◌, subst, arith, rules}
 use Rattle.dimacs.specs.Clauses.{numbers, closings}
 use Rattle.formula_theory.specs.declared.Size.{Size}
 use Rattle.dimacs.specs.Written.{write_refusal}

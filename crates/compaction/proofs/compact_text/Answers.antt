@@ -1,4 +1,4 @@
-use Rattle.std.proofs.Common.{◌≡◌, replicate, pos, ap, ◌∙◌, rules}
+use Rattle.std.proofs.Common.{replicate, pos, ap, ◌∙◌, rules}
 use Rattle.compaction.proofs.compact_text.Goals as goal
 
 pub compact_into-requires : goal.compact_into-requires

@@ -1,7 +1,7 @@
-use Rattle.std.proofs.Common.{◌≡◌, ℕ, List, ◌++◌, length, take, drop, vec_items, sym, ap, ◌∙◌, rules}
+use Rattle.std.proofs.Common.{◌≡◌, ◌++◌, length, take, drop, vec_items, ap, ◌∙◌, rules}
 use Rattle.std.proofs.lemmas.List.{take_at}
 use Rattle.std.proofs.lemmas.Result.{IfOk-from_err, IfOk-weaker}
-use Rattle.compactor.specs.Printed.{outcome, printed}
+use Rattle.compactor.specs.Printed.{outcome}
 use Rattle.compactor.proofs.Rewrites.{ok_prints, err_prints, prints_keep}
 use Rattle.compactor.proofs.compact.Goals as goal
 

@@ -1,4 +1,4 @@
-use Rattle.std.proofs.Common.{◌≡◌, ℕ, ◌+◌, ◌<◌, ◌≤◌, sym, arith}
+use Rattle.std.proofs.Common.{sym, arith}
 use Rattle.cover.proofs.Walks.{turn_room, turn_walks, turn_counts, walk_begins, walk_ends, count_begins, count_ends}
 use Rattle.cover.proofs.count_parts.Goals as goal
 

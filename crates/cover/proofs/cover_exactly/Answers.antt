@@ -1,8 +1,7 @@
-use Rattle.std.proofs.Common.{◌≡◌, ℕ, ◌+◌, ◌-◌, ◌*◌, ◌<◌, ◌≤◌, [], length, get_or, replicate, pos, Ok, Err, sym, refl, ap, ◌∙◌, subst, ap₂, arith}
+use Rattle.std.proofs.Common.{◌≡◌, ℕ, ◌-◌, ◌*◌, ◌<◌, ◌≤◌, [], length, get_or, replicate, pos, Ok, Err, sym, ap, ◌∙◌, subst, arith}
 use Rattle.std.proofs.lemmas.List.{get_or_past}
 use Rattle.cover.specs.declared.Covered.{Covered}
-use Rattle.network_theory.specs.Layout.{row_words, words_needed, cleared}
-use Rattle.cover_theory.specs.Parts.{Partition}
+use Rattle.network_theory.specs.Layout.{row_words, words_needed}
 use Rattle.cover_theory.specs.Rule.{ruled, pairs_from, cover_of}
 use Rattle.cover_theory.specs.Lies.{conflicts_in, numbers, list_holding}
 use Rattle.cover_theory.specs.Rows.{Fit, Went, conflicts, told}

@@ -1,6 +1,6 @@
-use Rattle.std.proofs.Common.{◌≡◌, ℕ, ◌+◌, ◌-◌, ◌*◌, ◌<◌, ◌≤◌, length, take, sym, refl, ap, ◌∙◌, arith}
+use Rattle.std.proofs.Common.{◌≡◌, ◌-◌, ◌*◌, ◌≤◌, length, take, refl, ap, ◌∙◌, arith}
 use Rattle.std.proofs.lemmas.List.{length-take-le}
-use Rattle.network_theory.specs.Layout.{row_words, words_needed}
+use Rattle.network_theory.specs.Layout.{words_needed}
 use Rattle.cover.specs.Outcome.{net_in}
 use Rattle.cover.proofs.Ends.{same_ending, whole_words}
 use Rattle.cover.proofs.cover_words.Goals as goal

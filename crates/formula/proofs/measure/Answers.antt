@@ -1,4 +1,4 @@
-use Rattle.std.proofs.Common.{◌≡◌, ℕ, length, take, ℤ, Ok, Err, Result, sym, refl, ap, ◌∙◌, subst, to_z-of_z}
+use Rattle.std.proofs.Common.{◌≡◌, length, take, Ok, Err, Result, sym, ap, ◌∙◌, subst, to_z-of_z}
 use Rattle.std.proofs.lemmas.Result.{err_from_is_err_and}
 use Rattle.fault.specs.declared.Fault.{Fault}
 use Rattle.cover.specs.Outcome.{cover_of_net}
@@ -6,7 +6,7 @@ use Rattle.network.specs.Views.{net_of}
 use Rattle.writing_theory.specs.declared.Numbers.{Numbers}
 use Rattle.formula_theory.specs.Outcome.{terms}
 use Rattle.writing_theory.specs.Covering.{terms_answer, Covering}
-use Rattle.writing_theory.proofs.Calls.{Left, ends_early, left_so, ends_short, covering, ends_measured}
+use Rattle.writing_theory.proofs.Calls.{ends_early, left_so, ends_short, covering, ends_measured}
 use Rattle.formula.proofs.measure.Goals as goal
 
 pub returns-in_err-numbers : goal.returns-in_err-numbers

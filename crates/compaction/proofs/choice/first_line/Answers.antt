@@ -1,4 +1,4 @@
-use Rattle.std.proofs.Common.{◌≡◌, ℕ, ◌-◌, ◌<◌, length, get_or, take, sym, ap, ◌∙◌, arith, rules}
+use Rattle.std.proofs.Common.{◌≡◌, ◌-◌, ◌<◌, length, get_or, take, sym, ap, ◌∙◌, arith, rules}
 use Rattle.compaction_theory.proofs.Lines.{line_before, line_all}
 use Rattle.compaction.proofs.choice.first_line.Goals as goal
 

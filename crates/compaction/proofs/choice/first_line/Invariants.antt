@@ -1,5 +1,4 @@
-use Rattle.std.proofs.Common.{◌≡◌, ℕ, ◌<◌, false, get_or}
-use Rattle.dimacs.specs.Bytes.{is_feed}
+use Rattle.std.proofs.Common.{◌≡◌, ℕ, ◌<◌, get_or}
 use Rattle.compaction.proofs.choice.first_line.Given as goal
 
 abbrev pub invariant-loop-i : goal.invariant-loop-i

@@ -1,4 +1,4 @@
-use Rattle.std.proofs.Common.{◌≡◌, List, [], ◌++◌, map, ℤ, sym, ap, ◌∙◌}
+use Rattle.std.proofs.Common.{List, ◌++◌, map, ℤ, sym, ap, ◌∙◌}
 use Rattle.dimacs.specs.Clauses.{numbers}
 use Rattle.compaction_theory.specs.Sorted.{clauses_in, others_of}
 use Rattle.compaction_theory.specs.Printed.{literals_of}

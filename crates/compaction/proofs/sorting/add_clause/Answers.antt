@@ -1,7 +1,6 @@
-use Rattle.std.proofs.Common.{◌≡◌, List, [], ◌∷◌, ◌++◌, map, ℤ, Option, sym, ap, ◌∙◌, subst, w32, SFits, rules}
+use Rattle.std.proofs.Common.{◌≡◌, [], ◌∷◌, ◌++◌, map, ℤ, Option, ap, ◌∙◌, subst, w32, SFits, rules}
 use Rattle.std.proofs.lemmas.Int.{to_z-of_z}
 use Rattle.std.specs.Option.{option_to_list}
-use Rattle.network_theory.specs.declared.Call.{Call}
 use Rattle.network_theory.specs.declared.Call.TheVariants.{Add}
 use Rattle.network_theory.specs.Layout.{Net}
 use Rattle.network_theory.specs.Runs.{Came}

@@ -1,4 +1,4 @@
-use Rattle.std.proofs.Common.{◌≡◌, ℕ, ◌+◌, ◌≤◌, List, [], ◌∷◌, ◌++◌, length, take, ℤ, sym, ap, ◌∙◌, subst, append_assoc, arith, rules}
+use Rattle.std.proofs.Common.{◌≡◌, ℕ, ◌+◌, List, [], ◌∷◌, ◌++◌, take, ℤ, sym, ap, ◌∙◌, subst, append_assoc, arith}
 use Rattle.network_theory.specs.declared.Call.{Call}
 use Rattle.network_theory.specs.Layout.{Net}
 use Rattle.network_theory.specs.Runs.{Came}
@@ -7,7 +7,7 @@ use Rattle.compaction_theory.specs.Sorted.{clauses_in, conflict_of, conflicts_of
 use Rattle.compaction_theory.specs.Account.{differing, new_to}
 use Rattle.compaction_theory.specs.Buffers.{asked}
 use Rattle.compaction_theory.specs.Walks.{between}
-use Rattle.compaction_theory.proofs.Walks.{small_between, walked_more, clauses_more, walked_over, asked_more, walked_start}
+use Rattle.compaction_theory.proofs.Walks.{small_between, walked_more, clauses_more, walked_over, asked_more}
 use Rattle.compaction_theory.proofs.Counting.{new_few, count_more}
 use Rattle.compaction.proofs.sorting.add_conflicts.Goals as goal
 

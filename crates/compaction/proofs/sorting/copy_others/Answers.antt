@@ -1,4 +1,4 @@
-use Rattle.std.proofs.Common.{◌≡◌, ℕ, ◌+◌, ◌≤◌, List, [], ◌∷◌, ◌++◌, length, take, ℤ, vec_items, sym, ap, ◌∙◌, subst, append_assoc, arith, rules}
+use Rattle.std.proofs.Common.{◌≡◌, ℕ, ◌+◌, List, [], ◌∷◌, ◌++◌, take, ℤ, vec_items, sym, ap, ◌∙◌, append_assoc, arith}
 use Rattle.dimacs.specs.Clauses.{numbers}
 use Rattle.compaction_theory.specs.Sorted.{clauses_in, others_of}
 use Rattle.compaction_theory.specs.Walks.{between}

@@ -1,4 +1,4 @@
-use Rattle.std.proofs.Common.{◌≡◌, ◌-◌, List, ◌++◌, length, take, vec_items}
+use Rattle.std.proofs.Common.{◌≡◌, ◌-◌, ◌++◌, length, take, vec_items}
 use Rattle.dimacs.specs.Clauses.{numbers}
 use Rattle.compaction_theory.specs.Sorted.{clauses_in, others_of}
 use Rattle.compaction_theory.specs.Walks.{Walked}

@@ -1,4 +1,4 @@
-use Rattle.std.proofs.Common.{◌≡◌, ℕ, length, sym, ap, subst, w32, SFits, rules}
+use Rattle.std.proofs.Common.{◌≡◌, ℕ, length, sym, subst, w32, SFits}
 use Rattle.std.proofs.lemmas.Int.{to_z-of_z}
 use Rattle.encoder_theory.specs.Meaning.{Meaning}
 use Rattle.encoder_theory.specs.Pairwise.{pairwise}

@@ -1,4 +1,4 @@
-use Rattle.std.proofs.Common.{◌≡◌, ℕ, List, [], length, ap, arith, w32, SFits, rules}
+use Rattle.std.proofs.Common.{◌≡◌, ℕ, [], length, arith, w32, SFits, rules}
 use Rattle.std.proofs.lemmas.Int.{to_z-of_z}
 use Rattle.network.specs.Views.{net_of}
 use Rattle.compaction_theory.proofs.Written.{taken_small, wrote_fed, opened_as}

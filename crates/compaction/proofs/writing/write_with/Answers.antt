@@ -1,4 +1,4 @@
-use Rattle.std.proofs.Common.{◌≡◌, ℤ, refl, w32, SFits, to_z, of_z, rules}
+use Rattle.std.proofs.Common.{w32, SFits, rules}
 use Rattle.std.proofs.lemmas.Int.{to_z-of_z}
 use Rattle.compaction.proofs.writing.write_with.Goals as goal
 

@@ -1,4 +1,4 @@
-use Rattle.std.proofs.Common.{◌≡◌, ℕ, ◌+◌, ◌*◌, ◌^◌, ◌<◌, ◌≤◌, ◌&&◌, length, get_or, sym, ap, ◌∙◌, ap₂, arith, w64, Fits}
+use Rattle.std.proofs.Common.{◌≡◌, ◌+◌, ◌*◌, ◌&&◌, length, get_or, sym, ap, ◌∙◌, ap₂, arith, w64, Fits}
 use lib.Bits.{bit_and, and_le_r}
 use Rattle.cover_theory.specs.Rule.{count}
 use Rattle.cover_theory.specs.Rows.{marked, stands_at}

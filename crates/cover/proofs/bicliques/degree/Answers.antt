@@ -1,4 +1,4 @@
-use Rattle.std.proofs.Common.{◌≡◌, ℕ, ◌+◌, ◌*◌, ◌^◌, ◌<◌, ◌≤◌, length, get_or, sym, ap, ◌∙◌, ap₂, arith, w64, Fits}
+use Rattle.std.proofs.Common.{◌≡◌, ◌+◌, ◌*◌, length, get_or, sym, ap, ◌∙◌, ap₂, arith, w64, Fits}
 use Rattle.cover_theory.specs.Rule.{count}
 use Rattle.cover_theory.specs.Rows.{stands_at}
 use Rattle.cover_theory.proofs.Starts.{row_in}

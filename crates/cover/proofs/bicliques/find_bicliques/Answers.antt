@@ -1,4 +1,4 @@
-use Rattle.std.proofs.Common.{◌≡◌, ℕ, ◌+◌, ◌-◌, ◌*◌, ◌<◌, ◌≤◌, true, false, length, take, sym, refl, ap, ◌∙◌, arith}
+use Rattle.std.proofs.Common.{◌≡◌, ◌+◌, ◌-◌, ◌*◌, true, false, length, take, sym, refl, ap, ◌∙◌, arith}
 use Rattle.cover_theory.specs.Rule.{bicliques, gains}
 use Rattle.cover_theory.specs.Rows.{Flat, conflicts, held, told}
 use Rattle.std.proofs.lemmas.Bool.{leb-true, leb-false}

@@ -1,4 +1,4 @@
-use Rattle.std.proofs.Common.{◌≡◌, ℕ, ◌+◌, ◌-◌, ◌*◌, ◌≤◌, take}
+use Rattle.std.proofs.Common.{◌≡◌, ◌-◌, ◌*◌, take}
 use Rattle.cover_theory.specs.Rule.{bicliques}
 use Rattle.cover_theory.specs.Rows.{Went, Flat, conflicts, told, Degrees}
 use Rattle.cover.proofs.bicliques.find_bicliques.Given as goal

@@ -1,4 +1,4 @@
-use Rattle.std.proofs.Common.{◌≡◌, ℕ, ◌+◌, ◌-◌, ◌<◌, ◌≤◌, get_or}
+use Rattle.std.proofs.Common.{◌≡◌, ◌+◌, ◌-◌, ◌<◌, get_or}
 use Rattle.cover_theory.specs.Rule.{first_best}
 use Rattle.cover.proofs.bicliques.fullest.Given as goal
 

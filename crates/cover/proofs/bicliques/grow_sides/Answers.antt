@@ -1,5 +1,5 @@
-use Rattle.std.proofs.Common.{◌≡◌, sym, ap, ◌∙◌, arith}
-use Rattle.cover_theory.specs.Rule.{Sides, widen, started_by, grown_sides}
+use Rattle.std.proofs.Common.{ap, ◌∙◌, arith}
+use Rattle.cover_theory.specs.Rule.{Sides, widen, started_by}
 use Rattle.cover_theory.specs.Rows.{conflicts}
 use Rattle.cover_theory.proofs.Degrees.{fullest_is}
 use Rattle.cover.proofs.bicliques.grow_sides.Goals as goal

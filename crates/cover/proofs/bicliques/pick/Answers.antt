@@ -1,8 +1,8 @@
-use Rattle.std.proofs.Common.{◌≡◌, ℕ, ◌+◌, ◌*◌, ◌^◌, ◌<◌, ◌≤◌, sym, refl, ap, ◌∙◌, subst, ap₂, arith}
+use Rattle.std.proofs.Common.{sym, refl, ◌∙◌}
 use Rattle.cover_theory.specs.Rule.{score}
 use Rattle.cover_theory.specs.Rows.{conflicts, held}
 use Rattle.std.proofs.lemmas.Bool.{ltb-true, ltb-false}
-use Rattle.cover_theory.proofs.Counts.{best_takes, best_keeps, best_all, best_none, picks_new, picks_old}
+use Rattle.cover_theory.proofs.Counts.{best_all, picks_new, picks_old}
 use Rattle.cover.proofs.bicliques.pick.Goals as goal
 use Rattle.cover.proofs.bicliques.pick.Goals.{then-beats, else-beats}
 

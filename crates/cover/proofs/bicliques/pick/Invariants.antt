@@ -1,4 +1,4 @@
-use Rattle.std.proofs.Common.{◌≡◌, ℕ, ◌-◌, ◌<◌, ◌≤◌}
+use Rattle.std.proofs.Common.{◌≡◌, ◌-◌, ◌<◌}
 use Rattle.cover_theory.specs.Rule.{score, chosen, first_best}
 use Rattle.cover_theory.specs.Rows.{conflicts, held}
 use Rattle.cover.proofs.bicliques.pick.Given as goal

@@ -1,6 +1,5 @@
-use Rattle.std.proofs.Common.{◌≡◌, ℕ, ◌+◌, ◌<◌, ◌≤◌, ltb, get_or, refl, arith}
+use Rattle.std.proofs.Common.{ltb, get_or, arith}
 use Rattle.std.proofs.lemmas.Bool.{and_parts, ltb-true}
-use Rattle.cover_theory.specs.Rule.{score}
 use Rattle.cover_theory.specs.Rows.{conflicts, held, marked}
 use Rattle.cover_theory.proofs.Degrees.{score_bound}
 use Rattle.cover.proofs.bicliques.score_above.Goals as goal

@@ -1,4 +1,4 @@
-use Rattle.std.proofs.Common.{◌≡◌, ℕ, ◌*◌, ◌≤◌, not, ◌&&◌, ◌||◌, ap, ◌∙◌, arith}
+use Rattle.std.proofs.Common.{◌≡◌, ◌*◌, ◌&&◌, ◌||◌, ap, arith}
 use Rattle.cover_theory.specs.Rows.{marked}
 use Rattle.cover_theory.proofs.Starts.{row_in}
 use Rattle.cover_theory.proofs.Sides.{sever_more}

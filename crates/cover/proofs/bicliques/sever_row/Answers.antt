@@ -1,4 +1,4 @@
-use Rattle.std.proofs.Common.{◌≡◌, not, ◌&&◌, ap, ◌∙◌}
+use Rattle.std.proofs.Common.{not, ◌&&◌, ap, ◌∙◌}
 use Rattle.cover_theory.specs.Rows.{marked, stands_at}
 use Rattle.cover_theory.proofs.Sides.{law}
 use Rattle.cover.proofs.bicliques.sever_row.Goals as goal

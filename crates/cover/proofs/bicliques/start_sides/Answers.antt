@@ -1,4 +1,4 @@
-use Rattle.std.proofs.Common.{ℕ, ◌/◌, ◌<◌, ◌≤◌, arith}
+use Rattle.std.proofs.Common.{arith}
 use Rattle.cover_theory.proofs.Starts.{row_in}
 use Rattle.cover_theory.proofs.Degrees.{start_sides}
 use Rattle.cover.proofs.bicliques.start_sides.Goals as goal

@@ -1,4 +1,4 @@
-use Rattle.std.proofs.Common.{◌≡◌, ℕ, ◌+◌, ◌<◌, ◌≤◌, length, take, sym, ap, ◌∙◌, arith}
+use Rattle.std.proofs.Common.{◌+◌, take, sym, ◌∙◌, arith}
 use Rattle.std.proofs.lemmas.Bool.{and_left, ltb-true, ltb-false}
 use Rattle.std.proofs.lemmas.List.{length-append, length-take-le}
 use Rattle.cover_theory.specs.Rule.{without_sides}

@@ -1,5 +1,4 @@
-use Rattle.std.proofs.Common.{◌≡◌, ℕ, ◌+◌, ◌-◌, ◌*◌, ◌≤◌, sym, refl, ap, ◌∙◌, arith}
-use Rattle.cover_theory.specs.Rule.{Sides, widen}
+use Rattle.std.proofs.Common.{sym, ◌∙◌, arith}
 use Rattle.cover_theory.specs.Rows.{conflicts, held}
 use Rattle.std.proofs.lemmas.Bool.{ltb-true, ltb-false}
 use Rattle.cover_theory.proofs.Starts.{row_in}

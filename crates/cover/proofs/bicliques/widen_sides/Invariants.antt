@@ -1,4 +1,4 @@
-use Rattle.std.proofs.Common.{◌≡◌, ℕ, ◌-◌, ◌<◌, ◌≤◌}
+use Rattle.std.proofs.Common.{◌≡◌, ◌-◌}
 use Rattle.cover_theory.specs.Rule.{Sides, widen}
 use Rattle.cover_theory.specs.Rows.{Neat, conflicts, held}
 use Rattle.cover.proofs.bicliques.widen_sides.Given as goal

@@ -1,4 +1,4 @@
-use Rattle.std.proofs.Common.{◌≡◌, ℕ, ◌+◌, ◌-◌, ◌<◌, ◌≤◌, [], length, take, sym, refl, ap, ◌∙◌, arith}
+use Rattle.std.proofs.Common.{◌≡◌, ◌+◌, ◌-◌, [], length, take, sym, refl, ap, ◌∙◌, arith}
 use Rattle.cover_theory.specs.Rows.{Flat, told, conflicts}
 use Rattle.cover_theory.specs.Rule.{sweep}
 use Rattle.cover_theory.proofs.Visits.{sweep_more, sweep_short, sweep_all, sweep_start, went_none, went_on, went_as}

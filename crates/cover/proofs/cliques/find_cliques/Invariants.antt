@@ -1,4 +1,4 @@
-use Rattle.std.proofs.Common.{◌≡◌, ℕ, ◌+◌, ◌-◌, ◌≤◌, [], take}
+use Rattle.std.proofs.Common.{◌≡◌, ◌-◌, [], take}
 use Rattle.cover_theory.specs.Rows.{Went, Flat, conflicts, told}
 use Rattle.cover_theory.specs.Rule.{sweep}
 use Rattle.cover.proofs.cliques.find_cliques.Given as goal

@@ -1,4 +1,4 @@
-use Rattle.std.proofs.Common.{ℕ, ◌+◌, ◌<◌, ◌≤◌, length, arith, length-set}
+use Rattle.std.proofs.Common.{arith, length-set}
 use Rattle.cover_theory.proofs.Starts.{row_in}
 use Rattle.cover_theory.proofs.Steps.{begins, again, in_range, ended, filled, placed}
 use Rattle.cover.proofs.cliques.grow.Goals as goal

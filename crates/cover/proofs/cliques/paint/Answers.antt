@@ -1,4 +1,4 @@
-use Rattle.std.proofs.Common.{refl, arith, rules}
+use Rattle.std.proofs.Common.{refl, arith}
 use Rattle.cover_theory.proofs.Removes.{painted}
 use Rattle.cover.proofs.cliques.paint.Goals as goal
 

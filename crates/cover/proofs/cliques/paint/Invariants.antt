@@ -1,4 +1,4 @@
-use Rattle.std.proofs.Common.{◌≡◌, ℕ, ◌*◌, ◌<◌, ◌≤◌, take}
+use Rattle.std.proofs.Common.{◌≡◌, ℕ, ◌*◌, ◌<◌, take}
 use Rattle.cover_theory.specs.Rows.{marked}
 use Rattle.cover_theory.specs.Rule.{among}
 use Rattle.cover.proofs.cliques.paint.Given as goal

@@ -1,4 +1,4 @@
-use Rattle.std.proofs.Common.{◌≡◌, ℕ, ◌+◌, ◌*◌, ◌<◌, ◌≤◌, not, ◌&&◌, length, get_or, take, sym, refl, ap, ◌∙◌, arith}
+use Rattle.std.proofs.Common.{◌≡◌, ℕ, ◌*◌, ◌<◌, not, ◌&&◌, get_or, take, refl, ap, ◌∙◌, arith}
 use Rattle.cover_theory.specs.Rows.{stands_at, marked}
 use Rattle.cover_theory.specs.Rule.{among}
 use Rattle.cover_theory.proofs.Starts.{row_in}

@@ -1,4 +1,4 @@
-use Rattle.std.proofs.Common.{◌≡◌, ℕ, ◌+◌, ◌*◌, ◌<◌, ◌≤◌, not, ◌&&◌, get_or, take}
+use Rattle.std.proofs.Common.{◌≡◌, ℕ, ◌*◌, ◌<◌, ◌≤◌, not, ◌&&◌, get_or, take}
 use Rattle.cover_theory.specs.Rows.{stands_at, marked}
 use Rattle.cover_theory.specs.Rule.{among}
 use Rattle.cover.proofs.cliques.remove.Given as goal

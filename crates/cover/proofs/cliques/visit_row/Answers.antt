@@ -1,4 +1,4 @@
-use Rattle.std.proofs.Common.{◌≡◌, ℕ, ◌+◌, ◌-◌, ◌<◌, ◌≤◌, length, take, sym, refl, ap, ◌∙◌, arith}
+use Rattle.std.proofs.Common.{◌≡◌, ◌+◌, ◌-◌, ◌<◌, length, take, sym, refl, ap, ◌∙◌, arith}
 use Rattle.cover_theory.specs.Rows.{Flat, told, conflicts}
 use Rattle.cover_theory.specs.Rule.{visits}
 use Rattle.cover_theory.proofs.Starts.{row_in}

@@ -1,4 +1,4 @@
-use Rattle.std.proofs.Common.{◌≡◌, ℕ, ◌+◌, ◌-◌, ◌≤◌, take}
+use Rattle.std.proofs.Common.{◌≡◌, ◌+◌, ◌-◌, ◌≤◌, take}
 use Rattle.cover_theory.specs.Rows.{Went, Flat, conflicts, told}
 use Rattle.cover_theory.specs.Rule.{visits}
 use Rattle.cover.proofs.cliques.visit_row.Given as goal

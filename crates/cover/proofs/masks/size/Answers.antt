@@ -1,4 +1,4 @@
-use Rattle.std.proofs.Common.{◌≡◌, ℕ, ◌+◌, ◌*◌, ◌^◌, ◌<◌, ◌≤◌, length, get_or, sym, ap, ◌∙◌, ap₂, arith, w64, Fits}
+use Rattle.std.proofs.Common.{◌≡◌, ◌+◌, ◌*◌, get_or, sym, ap, ◌∙◌, ap₂, arith, w64, Fits}
 use Rattle.cover_theory.specs.Rule.{count}
 use Rattle.cover_theory.specs.Rows.{marked}
 use Rattle.cover_theory.proofs.Counts.{word_more, mask_word, size_is}

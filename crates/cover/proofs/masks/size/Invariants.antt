@@ -1,4 +1,4 @@
-use Rattle.std.proofs.Common.{◌≡◌, ℕ, ◌*◌, ◌≤◌}
+use Rattle.std.proofs.Common.{◌≡◌, ◌*◌, ◌≤◌}
 use Rattle.cover_theory.specs.Rule.{count}
 use Rattle.cover_theory.specs.Rows.{marked}
 use Rattle.cover.proofs.masks.size.Given as goal

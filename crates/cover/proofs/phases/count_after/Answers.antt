@@ -1,4 +1,4 @@
-use Rattle.std.proofs.Common.{◌≡◌, ℕ, ◌+◌, ◌*◌, ◌/◌, ◌^◌, ◌<◌, ◌≤◌, length, get_or, sym, ap, ◌∙◌, ap₂, arith, w64, Fits}
+use Rattle.std.proofs.Common.{◌≡◌, ◌+◌, ◌*◌, ◌/◌, length, sym, ap, ◌∙◌, ap₂, arith}
 use Rattle.cover_theory.specs.Rule.{count}
 use Rattle.cover_theory.proofs.Starts.{row_in}
 use Rattle.cover_theory.proofs.Remaining.{from_on, none_below, word_on, rest_is}

@@ -1,4 +1,4 @@
-use Rattle.std.proofs.Common.{◌≡◌, ℕ, ◌+◌, ◌*◌, ◌≤◌}
+use Rattle.std.proofs.Common.{◌≡◌, ◌+◌, ◌*◌, ◌≤◌}
 use Rattle.cover_theory.specs.Rule.{count}
 use Rattle.cover_theory.proofs.Remaining.{from_on}
 use Rattle.cover.proofs.phases.count_after.Given as goal

@@ -1,4 +1,4 @@
-use Rattle.std.proofs.Common.{◌≡◌, ℕ, ◌+◌, ◌*◌, ◌<◌, ◌≤◌, sym, ap, ◌∙◌, arith}
+use Rattle.std.proofs.Common.{arith}
 use Rattle.cover_theory.specs.Rows.{conflicts}
 use Rattle.cover_theory.proofs.Remaining.{pairs_more, pairs_start, pairs_over}
 use Rattle.cover.proofs.phases.count_remaining.Goals as goal

@@ -1,4 +1,4 @@
-use Rattle.std.proofs.Common.{◌≡◌, ℕ, ◌+◌, ◌-◌, ◌*◌, ◌≤◌, length}
+use Rattle.std.proofs.Common.{◌≡◌, ◌+◌, ◌-◌, ◌*◌, ◌≤◌, length}
 use Rattle.cover_theory.specs.Rule.{pairs_from}
 use Rattle.cover_theory.specs.Rows.{conflicts}
 use Rattle.cover.proofs.phases.count_remaining.Given as goal

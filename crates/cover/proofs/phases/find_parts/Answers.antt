@@ -1,6 +1,5 @@
-use Rattle.std.proofs.Common.{◌≡◌, ℕ, ◌+◌, ◌-◌, ◌*◌, ◌<◌, ◌≤◌, [], length, take, sym, refl, ap, ◌∙◌, arith}
-use Rattle.cover_theory.specs.Rule.{bicliques, sweep}
-use Rattle.cover_theory.specs.Rows.{Flat, conflicts, told}
+use Rattle.std.proofs.Common.{[], length, arith}
+use Rattle.cover_theory.specs.Rows.{conflicts}
 use Rattle.cover_theory.proofs.Nets.{phases, phases_short}
 use Rattle.cover.proofs.phases.find_parts.Goals as goal
 

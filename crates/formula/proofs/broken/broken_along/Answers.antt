@@ -1,5 +1,4 @@
-use Rattle.std.proofs.Common.{◌≡◌, ◌<◌, true, false, length, sym, ap, ◌∙◌, arith, to_z-of_z, w32, SFits, rules}
-use Rattle.logic.specs.Literal.{literal}
+use Rattle.std.proofs.Common.{◌≡◌, true, false, length, sym, ap, ◌∙◌, arith, to_z-of_z, w32, SFits, rules}
 use Rattle.logic.specs.Clause.{holds}
 use Rattle.formula_theory.specs.Outcome.{assignment_of}
 use Rattle.cover_theory.proofs.Starts.{row_in}

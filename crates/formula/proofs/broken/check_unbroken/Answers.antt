@@ -1,4 +1,4 @@
-use Rattle.std.proofs.Common.{◌≡◌, ◌*◌, Err, sym, ap, ◌∙◌, to_z-of_z, w32, SFits, rules}
+use Rattle.std.proofs.Common.{◌≡◌, ◌*◌, Err, ap, ◌∙◌, to_z-of_z, w32, SFits, rules}
 use Rattle.std.specs.Option.{option_map}
 use Rattle.cover_theory.specs.Rows.{conflicts}
 use Rattle.formula_theory.specs.Outcome.{assignment_of, broken_from, broken_fault, unless_refused}

@@ -1,4 +1,4 @@
-use Rattle.std.proofs.Common.{◌≡◌, ◌+◌, ◌-◌, sym, ap, ◌∙◌}
+use Rattle.std.proofs.Common.{◌+◌, ◌-◌, sym, ap, ◌∙◌}
 use Rattle.cover_theory.specs.Rows.{conflicts}
 use Rattle.formula_theory.specs.Outcome.{assignment_of, broken_from, or_else}
 use Rattle.writing_theory.proofs.Values.{rows_broken}

@@ -1,4 +1,4 @@
-use Rattle.std.proofs.Common.{ℤ, pos}
+use Rattle.std.proofs.Common.{pos}
 use Rattle.logic.specs.Clause.{against}
 use Rattle.formula_theory.specs.Writing.{implication}
 use Rattle.writing_theory.proofs.Puts.{sides_put}

@@ -1,4 +1,4 @@
-use Rattle.std.proofs.Common.{◌≡◌, ◌+◌, ◌*◌, ◌<◌, ◌≤◌, length, get_or, ℤ, pos, sym, ap, ◌∙◌, arith, rules}
+use Rattle.std.proofs.Common.{◌≡◌, ◌+◌, ◌*◌, ◌<◌, length, get_or, pos, ◌∙◌, arith, rules}
 use Rattle.encoder_theory.specs.Buffer.{with_clause}
 use Rattle.formula_theory.specs.Writing.{implication}
 use Rattle.encoder_theory.proofs.Blocks.{block_none}

@@ -1,4 +1,4 @@
-use Rattle.std.proofs.Common.{◌≡◌, ◌+◌, ◌-◌, length, sym, ap, ◌∙◌, arith}
+use Rattle.std.proofs.Common.{◌≡◌, ◌+◌, ◌-◌, length, arith}
 use Rattle.writing_theory.proofs.Puts.{placed_admits, placed_room, placed_small, sides_room}
 use Rattle.formula.proofs.clauses.put_part.Goals as goal
 

@@ -1,6 +1,5 @@
-use Rattle.std.proofs.Common.{◌≡◌, ℕ, ◌+◌, ◌-◌, ◌*◌, ◌^◌, ◌<◌, ◌≤◌, List, length, ℤ, sym, refl, ap, ◌∙◌, subst, arith, rules}
-use Rattle.cover_theory.specs.Parts.{Part}
-use Rattle.writing_theory.specs.Listed.{Listed, Walked, Writable, PutSoFar, ends, takes}
+use Rattle.std.proofs.Common.{◌≡◌, ◌+◌, ◌*◌, ◌≤◌, length, arith, rules}
+use Rattle.writing_theory.specs.Listed.{PutSoFar, ends}
 use Rattle.writing_theory.proofs.Walks.{turn_stands, turn_moderate, turn_within}
 use Rattle.writing_theory.proofs.Puts.{puts_start, puts_sound, puts_fits, puts_room, puts_length, puts_within, puts_on, puts_end}
 use Rattle.formula.proofs.clauses.put_parts.Goals as goal

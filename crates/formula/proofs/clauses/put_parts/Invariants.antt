@@ -1,4 +1,4 @@
-use Rattle.std.proofs.Common.{◌≡◌, ℕ, ◌-◌, List, length, ℤ}
+use Rattle.std.proofs.Common.{ℕ, ◌-◌, List, length, ℤ}
 use Rattle.cover_theory.specs.Parts.{Part}
 use Rattle.writing_theory.specs.Listed.{Walked, Writable, PutSoFar}
 use Rattle.formula.proofs.clauses.put_parts.Given as goal

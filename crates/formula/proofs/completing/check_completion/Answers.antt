@@ -1,4 +1,4 @@
-use Rattle.std.proofs.Common.{◌≡◌, length, sym, ◌∙◌}
+use Rattle.std.proofs.Common.{length}
 use Rattle.std.proofs.lemmas.Result.{err_from_is_err_and}
 use Rattle.cover_theory.specs.Lies.{conflicts_in}
 use Rattle.writing_theory.proofs.Completes.{complete_small, complete_past, complete_short, complete_broken, complete_passed}

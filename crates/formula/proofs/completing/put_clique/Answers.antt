@@ -1,4 +1,4 @@
-use Rattle.std.proofs.Common.{◌≡◌, ◌+◌, ◌≤◌, cond, length, sym, subst}
+use Rattle.std.proofs.Common.{◌+◌, ◌≤◌, cond, length, sym, subst}
 use Rattle.encoder_theory.specs.Pairwise.{pairwise}
 use Rattle.encoder_theory.specs.Members.{Within}
 use Rattle.formula_theory.specs.Outcome.{assignment_of}

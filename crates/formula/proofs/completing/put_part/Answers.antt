@@ -1,4 +1,4 @@
-use Rattle.std.proofs.Common.{◌≡◌, ◌+◌, ◌-◌, Bool, true, false, length, set, sym, refl, ap, ◌∙◌, arith}
+use Rattle.std.proofs.Common.{◌≡◌, ◌+◌, ◌-◌, Bool, true, false, length, set, refl, ap, ◌∙◌, arith}
 use mir.Val.{bool_byte}
 use Rattle.encoder_theory.specs.Buffer.{byte}
 use Rattle.formula_theory.specs.Outcome.{assignment_of}

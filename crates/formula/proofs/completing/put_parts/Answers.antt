@@ -1,8 +1,7 @@
-use Rattle.std.proofs.Common.{◌≡◌, ℕ, ◌+◌, ◌-◌, ◌*◌, ◌<◌, ◌≤◌, List, length, ℤ, sym, refl, ap, ◌∙◌, subst, arith, rules}
-use Rattle.cover_theory.specs.Parts.{Part}
+use Rattle.std.proofs.Common.{◌≡◌, ◌+◌, ◌≤◌, length, arith, rules}
 use Rattle.formula_theory.specs.Outcome.{assignment_of}
-use Rattle.writing_theory.specs.Listed.{Walked, ends}
-use Rattle.writing_theory.specs.Completing.{Roomy, ValuesSoFar}
+use Rattle.writing_theory.specs.Listed.{ends}
+use Rattle.writing_theory.specs.Completing.{ValuesSoFar}
 use Rattle.writing_theory.proofs.Walks.{turn_stands, turn_moderate, turn_within}
 use Rattle.writing_theory.proofs.Puts.{turn_sound}
 use Rattle.writing_theory.proofs.Completes.{values_start, values_room, values_length, values_within, values_on, values_end}

@@ -1,4 +1,4 @@
-use Rattle.std.proofs.Common.{◌≡◌, true, false, sym, ◌∙◌, arith, rules}
+use Rattle.std.proofs.Common.{◌≡◌, true, sym, arith, rules}
 use Rattle.logic.specs.Clause.{holds}
 use Rattle.encoder_theory.specs.Members.{member}
 use Rattle.formula_theory.specs.Outcome.{assignment_of}

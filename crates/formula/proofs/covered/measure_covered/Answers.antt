@@ -1,4 +1,4 @@
-use Rattle.std.proofs.Common.{◌≡◌, ◌+◌, ◌≤◌, sym, ◌∙◌, rules}
+use Rattle.std.proofs.Common.{◌+◌, ◌≤◌, rules}
 use Rattle.std.proofs.lemmas.Result.{err_from_is_err_and}
 use Rattle.writing_theory.proofs.Covered.{measure_no, measure_yes, measure_small}
 use Rattle.formula.proofs.covered.measure_covered.Goals as goal

@@ -1,6 +1,5 @@
-use Rattle.std.proofs.Common.{◌≡◌, ℕ, ◌+◌, ◌*◌, ◌≤◌, length, sym, ap, ◌∙◌, subst, arith, rules}
+use Rattle.std.proofs.Common.{◌+◌, ◌*◌, ◌≤◌, length, sym, ap, ◌∙◌, subst, arith, rules}
 use Rattle.logic.specs.Clause.{flat}
-use Rattle.network_theory.specs.Layout.{row_words}
 use Rattle.cover_theory.specs.Rule.{pairs_from}
 use Rattle.cover_theory.specs.Rows.{conflicts, Fit}
 use Rattle.formula_theory.specs.declared.Size.{Size}

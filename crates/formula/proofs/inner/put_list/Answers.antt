@@ -1,4 +1,4 @@
-use Rattle.std.proofs.Common.{◌≡◌, ℕ, ◌-◌, length, take, drop, pos, sym, ap, ◌∙◌, arith, w32, to_z}
+use Rattle.std.proofs.Common.{◌≡◌, ◌-◌, length, take, drop, pos, ap, ◌∙◌, arith, w32, to_z}
 use Rattle.std.proofs.lemmas.Int.{to_z_pos}
 use Rattle.encoder_theory.specs.Calls.{write_answer, write_leaves}
 use Rattle.encoder_theory.proofs.Answered.{write_fits}

@@ -1,6 +1,5 @@
-use Rattle.std.proofs.Common.{◌≡◌, ℕ, ◌+◌, ◌-◌, ◌^◌, ◌<◌, ◌≤◌, List, length, ℤ, sym, refl, ap, ◌∙◌, subst, arith, rules}
-use Rattle.cover_theory.specs.Parts.{Part}
-use Rattle.writing_theory.specs.Listed.{Listed, Walked, Takes, ends, totals}
+use Rattle.std.proofs.Common.{◌≡◌, ◌≤◌, length, refl, arith, rules}
+use Rattle.writing_theory.specs.Listed.{Takes, ends}
 use Rattle.writing_theory.proofs.Walks.{walk_start, walk_end, turn_stands, turn_moderate, turn_within, adds_clauses, adds_auxiliaries, adds_on}
 use Rattle.formula.proofs.parts.add_up.Goals as goal
 

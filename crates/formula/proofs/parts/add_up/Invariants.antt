@@ -1,4 +1,4 @@
-use Rattle.std.proofs.Common.{◌≡◌, ℕ, ◌-◌, List, length, ℤ}
+use Rattle.std.proofs.Common.{ℕ, ◌-◌, List, length, ℤ}
 use Rattle.cover_theory.specs.Parts.{Part}
 use Rattle.writing_theory.specs.Listed.{Listed, Walked, Takes}
 use Rattle.formula.proofs.parts.add_up.Given as goal

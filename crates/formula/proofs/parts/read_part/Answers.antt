@@ -1,5 +1,4 @@
-use Rattle.std.proofs.Common.{◌≡◌, ℕ, sym, ◌∙◌, arith}
-use Rattle.cover.specs.Walk.{placed}
+use Rattle.std.proofs.Common.{◌≡◌, ℕ, arith}
 use Rattle.writing_theory.proofs.Walks.{stands_read}
 use Rattle.formula.proofs.parts.read_part.Goals as goal
 

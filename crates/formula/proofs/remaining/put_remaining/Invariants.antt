@@ -1,4 +1,4 @@
-use Rattle.std.proofs.Common.{◌+◌, ◌-◌, ◌≤◌, ◌++◌, take}
+use Rattle.std.proofs.Common.{◌-◌, ◌++◌, take}
 use Rattle.logic.specs.Clause.{flat}
 use Rattle.encoder_theory.proofs.Buffers.{Partway}
 use Rattle.cover_theory.specs.Rule.{pairs_from}

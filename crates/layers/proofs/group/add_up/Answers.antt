@@ -1,6 +1,5 @@
-use Rattle.std.proofs.Common.{◌≡◌, ℕ, ◌+◌, ◌<◌, ◌≤◌, ap, ◌∙◌, arith, rules}
-use Rattle.encoder_theory.specs.Meaning.{Meaning}
-use Rattle.layer_theory.specs.Grouping.{groups, start, size, sum}
+use Rattle.std.proofs.Common.{◌≡◌, ◌+◌, ◌<◌, ◌≤◌, ap, ◌∙◌, arith, rules}
+use Rattle.layer_theory.specs.Grouping.{groups, start, size}
 use Rattle.layer_theory.proofs.Sums.{sum_more}
 use Rattle.layer_theory.proofs.Rule.{rule_forms}
 use Rattle.layer_theory.proofs.Put.{sum_small}

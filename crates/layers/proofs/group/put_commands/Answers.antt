@@ -1,4 +1,4 @@
-use Rattle.std.proofs.Common.{◌+◌, ◌<◌, ◌≤◌, length, arith, rules}
+use Rattle.std.proofs.Common.{◌<◌, arith, rules}
 use Rattle.layer_theory.specs.Grouping.{groups, start, lies}
 use Rattle.encoder_theory.proofs.Blocks.{block_none}
 use Rattle.layer_theory.proofs.Put.{command_next}

@@ -1,7 +1,7 @@
-use Rattle.std.proofs.Common.{◌≡◌, ℕ, ◌+◌, ◌<◌, ◌≤◌, map, length, sym, refl, ap, ◌∙◌, subst, arith, rules}
+use Rattle.std.proofs.Common.{◌≡◌, ◌+◌, ◌<◌, ◌≤◌, map, length, sym, ap, ◌∙◌, subst, arith, rules}
 use Rattle.encoder_theory.specs.Members.{Within}
 use Rattle.encoder_theory.specs.Buffer.{byte, with_block}
-use Rattle.layer_theory.specs.Grouping.{groups, start, size, sum, place_in}
+use Rattle.layer_theory.specs.Grouping.{groups, start, size, place_in}
 use Rattle.layer_theory.proofs.Sums.{sum_more}
 use Rattle.layer_theory.proofs.Rule.{rule_forms, size_within, within_place}
 use Rattle.encoder_theory.proofs.Blocks.{block_none}

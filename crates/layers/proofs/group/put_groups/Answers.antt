@@ -1,9 +1,8 @@
-use Rattle.std.proofs.Common.{◌≡◌, ℕ, ◌+◌, ◌-◌, ◌*◌, ◌<◌, ◌≤◌, length, take, drop, sym, refl, ap, ◌∙◌, subst, arith, rules}
+use Rattle.std.proofs.Common.{◌≡◌, ◌+◌, ◌-◌, ◌*◌, ◌<◌, ◌≤◌, length, take, drop, sym, ap, ◌∙◌, subst, arith, rules}
 use Rattle.logic.specs.Clause.{flat}
-use Rattle.encoder_theory.specs.Each.{each}
 use Rattle.encoder_theory.specs.Meaning.{Admits, last_end}
-use Rattle.layer_theory.specs.Grouping.{groups, start, Formed, size, sum}
-use Rattle.layer_theory.specs.Commander.{group, group_list}
+use Rattle.layer_theory.specs.Grouping.{groups, start, size}
+use Rattle.layer_theory.specs.Commander.{group}
 use Rattle.encoder_theory.specs.Buffer.{with_block}
 use Rattle.layer_theory.proofs.Sums.{sum_more, sum_part}
 use Rattle.layer_theory.proofs.Rule.{rule_forms}

@@ -1,4 +1,4 @@
-use Rattle.std.proofs.Common.{◌≡◌, ◌+◌, ◌*◌, ◌<◌, ◌≤◌, [], ◌∷◌, length}
+use Rattle.std.proofs.Common.{◌≡◌, ◌+◌, ◌<◌, ◌≤◌, [], ◌∷◌, length}
 use Rattle.logic.specs.Clause.{flat}
 use Rattle.encoder_theory.specs.Each.{each}
 use Rattle.layer_theory.specs.Grouping.{groups, start}

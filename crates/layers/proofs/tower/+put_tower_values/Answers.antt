@@ -1,16 +1,12 @@
-use Rattle.std.proofs.Common.{◌≡◌, ℕ, ◌+◌, ◌-◌, ◌*◌, ◌<◌, ◌≤◌, true, false, map, length, take, sym, refl, ap, ◌∙◌, subst, arith, rules}
-use Rattle.logic.specs.Clause.{flat}
+use Rattle.std.proofs.Common.{◌≡◌, ◌<◌, ◌≤◌, true, false, map, sym, ap, ◌∙◌, arith, rules}
 use Rattle.encoder_theory.specs.Buffer.{byte, with_block}
-use Rattle.encoder_theory.specs.Meaning.{Admitted, Admits, most_members}
 use Rattle.encoder_theory.specs.Pairwise.{pairwise}
 use Rattle.encoder_theory.proofs.PairwiseLaws.{pairwise_lawful}
-use Rattle.layer_theory.specs.Grouping.{groups, start}
-use Rattle.layer_theory.specs.Commander.{whole, commanders}
+use Rattle.layer_theory.specs.Grouping.{groups}
+use Rattle.layer_theory.specs.Commander.{whole}
 use Rattle.layer_theory.specs.Tower.{tower}
-use Rattle.layer_theory.proofs.Parts.{length_commanders}
 use Rattle.layer_theory.proofs.TowerLaws.{third_fewer, tower_above, tower_lawful}
-use Rattle.encoder_theory.proofs.Inner.{few_clauses, few_auxiliaries}
-use Rattle.layer_theory.proofs.Put.{clauses_are, auxiliaries_are, below_admitted, names_fit, below_room, top_admits_names, top_room, all_put, values_below_room, top_values_few, top_values_within, top_values_room, all_values_put, whole_clauses, whole_auxiliaries, whole_list, whole_values}
+use Rattle.layer_theory.proofs.Put.{values_below_room, top_values_few, top_values_within, top_values_room, all_values_put, whole_values}
 use Rattle.layers.proofs.tower.+put_tower_values.Goals as goal
 
 pub returns-then-is_ground : goal.returns-then-is_ground

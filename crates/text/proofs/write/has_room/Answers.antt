@@ -1,4 +1,4 @@
-use Rattle.std.proofs.Common.{◌≡◌, ℕ, ◌+◌, leb, length, decimal, sym, ap, ◌∙◌}
+use Rattle.std.proofs.Common.{◌+◌, leb, length, decimal, ap, ◌∙◌}
 use Rattle.text.proofs.Numbers.{text_fits, text_too_long}
 use Rattle.text.proofs.write.has_room.Goals as goal
 

@@ -1,4 +1,4 @@
-use Rattle.std.proofs.Common.{◌≡◌, ℕ, ◌+◌, ◌-◌, ◌≤◌, List, length, take, drop, decimal, sym, ap, ◌∙◌, rules}
+use Rattle.std.proofs.Common.{◌≡◌, ℕ, ◌+◌, ◌-◌, List, length, take, drop, decimal, ap, ◌∙◌, rules}
 use Rattle.text.specs.Buffers.{overlaid}
 use Rattle.text.proofs.Decimals.{part_is}
 use Rattle.text.proofs.write.put_decimal.Goals as goal

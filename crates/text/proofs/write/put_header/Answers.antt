@@ -1,4 +1,4 @@
-use Rattle.std.proofs.Common.{◌≡◌, ℕ, ◌+◌, ◌<◌, ◌≤◌, List, [], ◌∷◌, ◌++◌, length, get_or, drop, ℤ, pos, decimal, sym, refl, ap, ◌∙◌, subst, zero-add, arith, w32, to_z, of_z, rules}
+use Rattle.std.proofs.Common.{◌≡◌, ℕ, List, [], ◌∷◌, ◌++◌, length, decimal, ◌∙◌, zero-add, arith, rules}
 use Rattle.std.proofs.lemmas.List.{length-append}
 use Rattle.text.proofs.Buffers.{Wrote, wrote_then, wrote_as}
 use Rattle.text.proofs.Numbers.{length_header, header_pieces}

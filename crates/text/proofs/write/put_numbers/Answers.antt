@@ -1,9 +1,9 @@
-use Rattle.std.proofs.Common.{◌≡◌, ℕ, ◌+◌, ◌<◌, ◌≤◌, List, [], ◌∷◌, ◌++◌, length, get_or, drop, ℤ, pos, sym, refl, ap, ◌∙◌, subst, arith, w32, to_z, of_z, rules}
+use Rattle.std.proofs.Common.{◌≡◌, ℕ, List, length, get_or, drop, ℤ, pos, sym, ap, ◌∙◌, arith, w32, to_z, of_z, rules}
 use Rattle.std.specs.List.{flat_map}
 use Rattle.std.proofs.lemmas.List.{at_drop_all}
 use Rattle.dimacs.specs.Written.{spaced}
 use Rattle.text.specs.Buffers.{overlaid}
-use Rattle.text.proofs.Buffers.{Wrote, wrote_as, overlaid_none}
+use Rattle.text.proofs.Buffers.{wrote_as, overlaid_none}
 use Rattle.text.proofs.Numbers.{numbers_more, number_fits}
 use Rattle.text.proofs.write.put_numbers.Goals as goal
 

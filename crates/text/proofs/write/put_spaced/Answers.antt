@@ -1,8 +1,6 @@
-use Rattle.std.proofs.Common.{◌≡◌, ℕ, ◌+◌, ◌<◌, ◌≤◌, List, [], ◌∷◌, ◌++◌, length, get_or, drop, ℤ, pos, sym, refl, ap, ◌∙◌, subst, arith, w32, to_z, of_z, rules}
+use Rattle.std.proofs.Common.{◌≡◌, ◌+◌, ◌≤◌, [], ◌∷◌, length, ℤ, sym, ap, ◌∙◌, arith, w32, to_z, of_z, rules}
 use Rattle.std.specs.Fmt.{signed_decimal}
-use Rattle.logic.specs.Literal.{variable}
 use Rattle.dimacs.specs.Clauses.{closes}
-use Rattle.dimacs.specs.Written.{spaced}
 use Rattle.text.proofs.Buffers.{Wrote, wrote_then, wrote_as}
 use Rattle.text.proofs.Numbers.{length_spaced, spaced_feed, spaced_space}
 use Rattle.text.proofs.write.put_spaced.Goals as goal

@@ -1,4 +1,4 @@
-use Rattle.std.proofs.Common.{◌≡◌, ℕ, ◌+◌, ◌-◌, ◌<◌, ◌≤◌, Bool, List, length, get_or, drop, ℤ, pos, Some, Option, sym, refl, ap, ◌∙◌, subst, arith, w32, to_z, of_z, rules}
+use Rattle.std.proofs.Common.{◌≡◌, ℕ, ◌+◌, ◌-◌, ◌<◌, List, length, get_or, drop, ℤ, pos, sym, ap, ◌∙◌, arith, w32, to_z, of_z, rules}
 use Rattle.std.proofs.lemmas.List.{at_drop_all, at_drop_more}
 use Rattle.dimacs.specs.Written.{spaced}
 use Rattle.text.proofs.Numbers.{room_left, room_none, room_short, room_more}

@@ -1,13 +1,10 @@
-use Rattle.std.proofs.Common.{◌≡◌, ℕ, ◌+◌, ◌-◌, ◌*◌, ◌<◌, ◌≤◌, false, length, take, sym, refl, ap, ◌∙◌, subst, arith, rules}
-use Rattle.logic.specs.Clause.{flat}
-use Rattle.encoder_theory.specs.Buffer.{byte, with_block}
-use Rattle.encoder_theory.specs.Meaning.{Admitted, Admits, most_members}
+use Rattle.std.proofs.Common.{◌≡◌, ◌+◌, ◌≤◌, false, sym, ap, ◌∙◌, arith, rules}
 use Rattle.layer_theory.specs.Grouping.{groups, start}
-use Rattle.layer_theory.specs.Commander.{whole, commander, commanders}
+use Rattle.layer_theory.specs.Commander.{whole, commander}
 use Rattle.layer_theory.proofs.Rule.{rule_forms, groups_within}
 use Rattle.layer_theory.proofs.CommanderLaws.{commander_lawful}
-use Rattle.encoder_theory.proofs.Inner.{written_block, filled_block, few_clauses, few_auxiliaries}
-use Rattle.layer_theory.proofs.Put.{clauses_are, auxiliaries_are, below_admitted, names_fit, below_room, top_admits_names, top_room, all_put, values_below_room, top_values_few, top_values_within, top_values_room, all_values_put, whole_clauses, whole_auxiliaries, whole_list, whole_values, agree_self}
+use Rattle.encoder_theory.proofs.Inner.{few_auxiliaries}
+use Rattle.layer_theory.proofs.Put.{auxiliaries_are, agree_self}
 use Rattle.layers.proofs.commander.Commander.auxiliary_count.Goals as goal
 
 pub overflow_add-result : goal.overflow_add-result

@@ -1,13 +1,9 @@
-use Rattle.std.proofs.Common.{◌≡◌, ℕ, ◌+◌, ◌-◌, ◌*◌, ◌<◌, ◌≤◌, true, false, map, length, take, sym, refl, ap, ◌∙◌, subst, arith, rules}
-use Rattle.logic.specs.Clause.{flat}
+use Rattle.std.proofs.Common.{◌≡◌, true, false, map, sym, ap, ◌∙◌, arith}
 use Rattle.encoder_theory.specs.Buffer.{byte, with_block}
-use Rattle.encoder_theory.specs.Meaning.{Admitted, Admits, most_members}
-use Rattle.layer_theory.specs.Grouping.{groups, start}
-use Rattle.layer_theory.specs.Commander.{whole, commander, commanders}
-use Rattle.layer_theory.proofs.Rule.{rule_forms, groups_within}
+use Rattle.layer_theory.specs.Commander.{whole, commander}
 use Rattle.layer_theory.proofs.CommanderLaws.{commander_lawful}
-use Rattle.encoder_theory.proofs.Inner.{written_block, filled_block, few_clauses, few_auxiliaries}
-use Rattle.layer_theory.proofs.Put.{clauses_are, auxiliaries_are, below_admitted, names_fit, below_room, top_admits_names, top_room, all_put, values_below_room, top_values_few, top_values_within, top_values_room, all_values_put, whole_clauses, whole_auxiliaries, whole_list, whole_values, agree_self}
+use Rattle.encoder_theory.proofs.Inner.{filled_block}
+use Rattle.layer_theory.proofs.Put.{top_values_few, top_values_within, top_values_room, all_values_put, whole_values, agree_self}
 use Rattle.layers.proofs.commander.Commander.fill.Goals as goal
 
 pub returns-then-is_whole : goal.returns-then-is_whole

@@ -1,15 +1,14 @@
-use Rattle.std.proofs.Common.{◌≡◌, ℕ, ◌+◌, ◌-◌, ◌*◌, ◌<◌, ◌≤◌, true, false, map, length, take, sym, refl, ap, ◌∙◌, subst, arith, rules}
+use Rattle.std.proofs.Common.{◌≡◌, true, false, length, take, sym, refl, ap, ◌∙◌, subst, arith}
 use Rattle.std.proofs.lemmas.List.{length-take}
 use Rattle.logic.specs.Clause.{flat}
-use Rattle.encoder_theory.specs.Buffer.{byte, with_block}
-use Rattle.encoder_theory.specs.Meaning.{Admitted, Admits, most_members}
-use Rattle.layer_theory.specs.Grouping.{groups, start}
+use Rattle.encoder_theory.specs.Buffer.{with_block}
+use Rattle.encoder_theory.specs.Meaning.{Admitted}
+use Rattle.layer_theory.specs.Grouping.{groups}
 use Rattle.layer_theory.specs.Commander.{whole, commander, commanders}
-use Rattle.layer_theory.proofs.Rule.{rule_forms, groups_within}
 use Rattle.layer_theory.proofs.Parts.{length_commanders}
 use Rattle.layer_theory.proofs.CommanderLaws.{commander_lawful}
-use Rattle.encoder_theory.proofs.Inner.{written_block, filled_block, few_clauses, few_auxiliaries}
-use Rattle.layer_theory.proofs.Put.{clauses_are, auxiliaries_are, below_admitted, names_fit, below_room, top_admits_names, top_room, all_put, values_below_room, top_values_few, top_values_within, top_values_room, all_values_put, whole_clauses, whole_auxiliaries, whole_list, whole_values, agree_self}
+use Rattle.encoder_theory.proofs.Inner.{written_block}
+use Rattle.layer_theory.proofs.Put.{below_admitted, names_fit, below_room, top_admits_names, top_room, all_put, whole_clauses, whole_auxiliaries, whole_list, agree_self}
 use Rattle.layers.proofs.commander.Commander.put.Goals as goal
 
 pub put_list-requires : goal.put_list-requires
