@@ -216,5 +216,5 @@ int main(int argc, char** argv) {
     Covered c = cover.run();
     double seconds = std::chrono::duration<double>(std::chrono::steady_clock::now() - start).count();
     std::printf("%zu conflicts: %zu cliques, %zu bicliques, %zu remaining, %zu numbers\n", conflicts / 2, c.cliques, c.bicliques, c.remaining, c.used);
-    std::fprintf(stderr, "%.6f\n", seconds);
+    std::fprintf(stderr, "%.3f\n", seconds);
 }

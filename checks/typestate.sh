@@ -17,7 +17,12 @@ for crate in fault logic network_theory network; do
         [ ! -d "$root/crates/$crate/$part" ] || cp -R "$root/crates/$crate/$part" "$work/crates/$crate/"
     done
 done
-(cd "$work" && git init -q && rt check fault && rt check logic && rt check network_theory) > "$work/ready.out" 2>&1 || {
+# checked CRATE: it proves in the copy
+checked() {
+    (cd "$work/crates/$1" && rt check)
+}
+
+(cd "$work" && git init -q && checked fault && checked logic && checked network_theory) > "$work/ready.out" 2>&1 || {
     cat "$work/ready.out"
     echo "typestate: the crates below the network are not proved" >&2
     exit 1
@@ -30,7 +35,7 @@ refuses() {
     cp "$root/crates/network/src/lib.rt" "$work/crates/network/src/lib.rt"
     printf '\nmod offence;\n' >> "$work/crates/network/src/lib.rt"
     cat > "$work/crates/network/src/offence.rt"
-    if (cd "$work" && rt check network) > "$work/said" 2>&1; then
+    if checked network > "$work/said" 2>&1; then
         echo "typestate: $1: NOT REFUSED"
         status=1
     elif grep -q "src/offence.rt:.*error$2" "$work/said"; then

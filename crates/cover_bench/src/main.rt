@@ -14,11 +14,7 @@ use std::time::Instant;
 // The words of a row are at most 128, so no network needs more.
 const MOST_WORDS: usize = 1_048_576;
 
-// No part takes more than so many numbers of the list for each of its conflicts.
-const NUMBERS: usize = 2;
-
-// The microseconds of a second.
-const MICROS: u128 = 1_000_000;
+const LIST: usize = 4_000_000;
 
 fn run(rt: &HostRuntime, kind: &str, n: usize, seed: u64) -> anyhow::Result<()> {
     let heap = rt.alloc();
@@ -27,16 +23,16 @@ fn run(rt: &HostRuntime, kind: &str, n: usize, seed: u64) -> anyhow::Result<()> 
     };
     let mut words = vec![in heap; 0u64; needed]?;
     let mut work = vec![in heap; 0u64; needed]?;
+    let mut list = vec![in heap; 0i32; LIST]?;
     let mut random = Random { state: seed };
     let mut net = Open::open(n, words.as_mut_slice());
     let conflicts = networks::fill(&mut net, heap, kind, n, &mut random)?;
-    let mut list = vec![in heap; 0i32; conflicts.saturating_mul(NUMBERS)]?;
     let net = net.seal();
     let start = Instant::now(rt)?;
     let Ok(covered) = cover(&net, work.as_mut_slice(), list.as_mut_slice()) else {
         return Err(anyhow!("the list is too short"));
     };
-    let micros = start.elapsed(rt)?.as_micros();
+    let seconds = start.elapsed(rt)?.as_micros();
     let cliques = covered.cliques;
     let bicliques = covered.bicliques;
     let remaining = covered.remaining;
@@ -44,9 +40,9 @@ fn run(rt: &HostRuntime, kind: &str, n: usize, seed: u64) -> anyhow::Result<()> 
     println!(rt;
         "{conflicts} conflicts: {cliques} cliques, {bicliques} bicliques, {remaining} remaining, {used} numbers"
     )?;
-    let seconds = micros / MICROS;
-    let rest = micros % MICROS;
-    eprintln!(rt; "{seconds}.{rest:06}")?;
+    let whole = seconds / 1_000_000;
+    let thousandths = seconds % 1_000_000 / 1_000;
+    eprintln!(rt; "{whole}.{thousandths:03}")?;
     Ok(())
 }
 
