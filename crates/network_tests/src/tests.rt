@@ -62,7 +62,7 @@ fn refusals_in_their_order(rt: HostRuntime) {
     assert_eq!(rt; net.add(-3, -3), Err(refused(Refusal::RepeatedLiteral)));
     assert_eq!(rt; net.add(3, -3), Err(refused(Refusal::ComplementaryPair)));
     assert_eq!(rt; net.add(-3, 3), Err(refused(Refusal::ComplementaryPair)));
-    assert!(rt; net.seal().words() == [0u64; 6]);
+    assert!(rt; net.seal().words() == [0u64; 6].as_slice());
 }
 
 #[test]
@@ -87,7 +87,7 @@ fn words_beyond_the_needed(rt: HostRuntime) {
     assert_eq!(rt; net.add(1, 2), Ok(true));
     let sealed = net.seal();
     assert_eq!(rt; sealed.variables(), 2);
-    assert!(rt; sealed.words() == [4u64, 0, 1, 0, 7, 7]);
+    assert!(rt; sealed.words() == [4u64, 0, 1, 0, 7, 7].as_slice());
 }
 
 #[test]
@@ -97,7 +97,7 @@ fn unfit_numbers_touch_no_word(rt: HostRuntime) {
     assert_eq!(rt; net.add(1, 2), Err(refused(Refusal::LiteralOutOfRange)));
     let sealed = net.seal();
     assert_eq!(rt; sealed.variables(), 0);
-    assert!(rt; sealed.words() == [7u64; 3]);
+    assert!(rt; sealed.words() == [7u64; 3].as_slice());
     assert_eq!(rt; Open::open(0, &mut words).seal().variables(), 0);
     assert_eq!(rt; Open::open(4097, &mut words).seal().variables(), 0);
 }
