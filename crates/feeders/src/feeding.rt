@@ -137,7 +137,7 @@ fn collect(
 }
 
 // A text that says what the sheet says, each pair so many times.
-pub fn variant(
+pub(crate) fn variant(
     heap: Global,
     sheet: &Sheet,
     copies: usize,

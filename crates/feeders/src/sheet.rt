@@ -13,7 +13,7 @@ pub struct Pair {
 
 impl Pair {
     // The same clause, told the other way round.
-    pub fn exchanged(self) -> Pair
+    pub(crate) fn exchanged(self) -> Pair
         ensures { (result.x ≡ self.y) × (result.y ≡ self.x) }
     {
         Pair {
@@ -84,7 +84,7 @@ impl Sheet {
         self.take_clause(heap, line)
     }
 
-    pub fn of(heap: Global, text: &str) -> Result<Sheet, AllocError> {
+    pub(crate) fn of(heap: Global, text: &str) -> Result<Sheet, AllocError> {
         let mut sheet = Sheet {
             front: front_of(heap, text)?,
             variables: 0,

@@ -69,7 +69,7 @@ fn verdict_on(heap: Global, sheet: &Sheet, expected: &[u8]) -> Result<Verdict, A
 }
 
 // Runs `compact` on a file and on its variants.
-pub fn try_variants(heap: Global, text: &str) -> Result<Trial, AllocError> {
+pub(crate) fn try_variants(heap: Global, text: &str) -> Result<Trial, AllocError> {
     let sheet = Sheet::of(heap, text)?;
     let expected = printed(heap, text)?;
     let verdict = verdict_on(heap, &sheet, expected.as_slice())?;
