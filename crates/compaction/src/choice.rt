@@ -1,35 +1,28 @@
 // The encoder that a file picks by its first line.
-ghost use Rattle.std.specs.Prelude.{◌≡◌, ℕ};
-ghost use Rattle.compaction_theory.specs.Choices.{first_line, picks_encoder, by_letter, choice_of};
+ghost use Rattle.std.specs.Prelude.{◌≡◌, ◌==◌, position};
+ghost use Rattle.compaction_theory.specs.Choices.{first_line, by_letter, choice_of};
 
 use compaction_theory::Choice;
+
+// The place of the first line feed.
+fn first_feed(text: &[u8]) -> Option<usize>
+    ensures { result ≡ position (λ b. b == 10) text.now }
+{
+    text.iter().position(|byte| *byte == b'\n')
+}
 
 // The bytes before the first line feed.
 fn first_line(text: &[u8]) -> &[u8]
     ensures { result.now ≡ first_line text.now }
 {
-    for (i, byte) in text.iter().enumerate() {
-        if *byte == b'\n' {
-            return &text[0..i];
-        }
+    match first_feed(text) {
+        Some(end) => &text[..end],
+        None => text,
     }
-    text
-}
-
-// Whether the line is just `c amo ` and one character.
-fn picks_encoder(line: &[u8]) -> bool
-    ensures { result ≡ picks_encoder line.now }
-{
-    line.len() == 7
-        && line[0] == b'c'
-        && line[1] == b' '
-        && line[2] == b'a'
-        && line[3] == b'm'
-        && line[4] == b'o'
-        && line[5] == b' '
 }
 
 // The encoder of a letter: any other than these four picks the tower.
+// It is no `From<char>`: it reads one place of a line, and is no conversion that a caller would look for.
 fn by_letter(letter: char) -> Choice
     ensures { result ≡ by_letter letter }
 {
@@ -42,14 +35,13 @@ fn by_letter(letter: char) -> Choice
     }
 }
 
-// The encoder that a first line picks; the tower, if it picks none.
+// The encoder that a first line picks if it is just `c amo ` and one character; else the tower.
 fn choose(line: &[u8]) -> Choice
     ensures { result ≡ choice_of line.now }
 {
-    if picks_encoder(line) {
-        by_letter(line[6] as char)
-    } else {
-        Choice::Tower
+    match line {
+        [b'c', b' ', b'a', b'm', b'o', b' ', letter] => by_letter(*letter as char),
+        _ => Choice::Tower,
     }
 }
 

@@ -1,4 +1,4 @@
-// The work of the programs `compact` and `compact_large`: from the bytes of a file to the bytes that are printed.
+// The work of the programs `compact_small` and `compact_large`: from the bytes of a file to the bytes that are printed.
 //
 // A file's pair clauses are collected as conflicts, covered, and written short by the encoder that its first line picks;
 // all other clauses follow in their order. The contract of `compact_with_account` pins
@@ -12,45 +12,29 @@
 #![tactic(auto)]
 
 mod choice;
+mod file;
 mod output;
 mod sorting;
 mod writing;
 
-ghost use Rattle.std.specs.Prelude.{◌≡◌, ℕ, ◌≤◌, List, [], ◌∷◌, ◌++◌, length, replicate, pos, IfOk, if◌then◌else◌, Some, None, Ok, Err, nat_lt};
+ghost use Rattle.std.specs.Prelude.{◌≡◌, ◌≤◌, [], ◌∷◌, ◌++◌, length, IfOk, if◌then◌else◌, None, Ok, Err, nat_lt};
 ghost use Rattle.fault.specs.Fault.{fault_text};
-ghost use Rattle.network_theory.specs.Calls.{most_variables as networkVariables};
-ghost use Rattle.network_theory.specs.Layout.{words_needed};
-ghost use Rattle.compaction_theory.specs.Sorted.{clauses_in};
-ghost use Rattle.compaction_theory.specs.Choices.{meaning_of, most_bytes, most_variables, number_room};
-ghost use Rattle.compaction_theory.specs.Account.{Counts, account_of, account_in};
-ghost use Rattle.compaction_theory.specs.Printed.{blank, count_fault, length_fault, variables_fit, compacted_text, outcome, printed};
+ghost use Rattle.compaction_theory.specs.Choices.{most_bytes};
+ghost use Rattle.compaction_theory.specs.Account.{account_in};
+ghost use Rattle.compaction_theory.specs.Printed.{blank, count_fault, length_fault, variables_fit, outcome, printed};
 ghost use Rattle.compaction_theory.specs.Promises.{CompactsFile, PrintsAlike, Decided};
 ghost use Rattle.compaction_theory.specs.Buffers.{NeverShort};
-ghost use Rattle.compaction_theory.specs.Walks.{TakenNumbers};
-ghost use Rattle.compaction_theory.specs.Written.{Holding, read_within};
-ghost use Rattle.dimacs.specs.Clauses.{closings};
+ghost use Rattle.compaction_theory.specs.Written.{read_within};
 ghost use Rattle.dimacs.specs.Laws.{Holds};
 ghost use Rattle.dimacs.specs.Reading.{reading};
 
 use choice::choice_of;
-use compaction_theory::Choice;
 pub use compaction_theory::{Account, Scale};
-use cover::count_parts;
 use dimacs::Summary;
 use fault::{Fault, Layer, Refusal};
-use formula::Size;
-use network::fits;
-use output::{assemble, text_of};
+use file::File;
 use std::alloc::{AllocError, Global};
 use text::read::read;
-use text::write::count_closings;
-use writing::write_conflicts;
-
-// A header takes at most so many bytes,
-const HEADER_BYTES: usize = 24;
-
-// and a number with its sign and what stands after it at most so many.
-const NUMBER_BYTES: usize = 12;
 
 // What comes of an input: the bytes that are printed, and the account, unless they tell a fault.
 #[derive(Drop)]
@@ -59,57 +43,13 @@ pub struct Compacted {
     pub account: Option<Account>,
 }
 
-// The formula of a file's conflicts: its numbers at the start of a buffer, its size, and how many conflicts, cliques and bicliques there are.
-#[derive(Drop)]
-struct Formula {
-    written: Vec<i32>,
-    size: Size,
-    conflicts: usize,
-    cliques: usize,
-    bicliques: usize,
-}
-
-// The most bytes of an input.
-pub fn most_bytes(scale: Scale) -> usize
-    ensures { result ≡ most_bytes scale }
-{
-    match scale {
-        Scale::Small => 65_536,
-        Scale::Large => 67_108_864,
-    }
-}
-
-// The most variables of a file.
-fn most_variables(scale: Scale) -> u32
-    ensures { result ≡ most_variables scale }
-{
-    match scale {
-        Scale::Small => 256,
-        Scale::Large => 4096,
-    }
-}
-
-// How many numbers are read of an input of so many bytes, and how many a part list and a clause buffer hold.
-fn number_room(scale: Scale, bytes: usize) -> usize
-    ensures { result ≡ number_room scale bytes }
-{
-    match scale {
-        Scale::Small => 16_384,
-        Scale::Large => bytes / 2 + 1,
-    }
-}
-
 // More bytes than the most are a fault there.
 fn check_length(scale: Scale, len: usize) -> Result<(), Fault>
     ensures { result ≡ (if nat_lt (most_bytes scale) len then Err (length_fault scale) else Ok tt) }
 {
-    let most = most_bytes(scale);
+    let most = scale.most_bytes();
     if len > most {
-        return Err(Fault {
-            refusal: Refusal::ClauseListFull,
-            layer: Layer::Text,
-            place: most,
-        });
+        return Err(Fault::in_text(Refusal::ClauseListFull, most));
     }
     Ok(())
 }
@@ -118,25 +58,10 @@ fn check_length(scale: Scale, len: usize) -> Result<(), Fault>
 fn check_variables(scale: Scale, n: u32) -> Result<(), Fault>
     ensures { result ≡ (if variables_fit scale n then Ok tt else Err count_fault) }
 {
-    if n < 1 || n > most_variables(scale) {
-        return Err(Fault {
-            refusal: Refusal::VariableCount,
-            layer: Layer::Network,
-            place: 0,
-        });
+    if !(1..=scale.most_variables()).contains(&n) {
+        return Err(Fault::new(Layer::Network, Refusal::VariableCount));
     }
     Ok(())
-}
-
-// The words that a network of `n` variables needs.
-fn words_needed(n: usize) -> usize
-    requires { (1 ≤ n) × (n ≤ networkVariables) }
-    ensures { result ≡ words_needed n }
-{
-    match fits(n, usize::MAX) {
-        Ok(needed) => needed,
-        Err(_) => unreachable(),
-    }
 }
 
 // Reads a text into a list, and refuses a number of variables that will not do.
@@ -148,90 +73,6 @@ fn read_within(scale: Scale, text: &[u8], numbers: &mut [i32]) -> Result<Summary
     let found = read(text, numbers)?;
     check_variables(scale, found.variables)?;
     Ok(found)
-}
-
-// Writes the formula of the clauses' conflicts into a buffer of so many numbers, and counts.
-fn formula_of(
-    heap: Global,
-    choice: Choice,
-    n: usize,
-    numbers: &[i32],
-    room: usize,
-) -> Result<Formula, AllocError>
-    requires { (TakenNumbers n numbers.now) × (length numbers.now ≤ room) }
-    ensures holds { IfOk result (λ f. Holding n (clauses_in numbers.now) (meaning_of choice) f.written.items f.size) }
-    ensures counts { IfOk result (λ f. Counts n (clauses_in numbers.now) f.conflicts f.cliques f.bicliques) }
-{
-    let needed = words_needed(n);
-    let mut words = vec![in heap; 0u64; needed]?;
-    let mut work = vec![in heap; 0u64; needed]?;
-    let mut list = vec![in heap; 0i32; room]?;
-    let mut written = vec![in heap; 0i32; room]?;
-    let (size, conflicts) = write_conflicts(
-        choice,
-        n,
-        numbers,
-        words.as_mut_slice(),
-        work.as_mut_slice(),
-        list.as_mut_slice(),
-        written.as_mut_slice(),
-    );
-    let (cliques, bicliques) = count_parts(list.as_slice());
-    Ok(Formula {
-        written,
-        size,
-        conflicts,
-        cliques,
-        bicliques,
-    })
-}
-
-// The account of a file of n variables, of whose clauses this formula and these compacted clauses were made.
-fn account_of(n: u32, numbers: &[i32], formula: &Formula, compacted: &[i32]) -> Account
-    ensures { result ≡ record { variables = n; conflicts = formula.now.conflicts; cliques = formula.now.cliques; bicliques = formula.now.bicliques; clauses_before = closings numbers.now; clauses_after = closings compacted.now; auxiliaries = formula.now.size.auxiliaries } }
-{
-    Account {
-        variables: n as usize,
-        conflicts: formula.conflicts,
-        cliques: formula.cliques,
-        bicliques: formula.bicliques,
-        clauses_before: count_closings(numbers),
-        clauses_after: count_closings(compacted),
-        auxiliaries: formula.size.auxiliaries,
-    }
-}
-
-// The compacted file of n variables and these clauses, with its account.
-fn compact_numbers(
-    heap: Global,
-    choice: Choice,
-    n: u32,
-    numbers: &[i32],
-    room: usize,
-) -> Result<Compacted, AllocError>
-    requires { (TakenNumbers n numbers.now) × (length numbers.now ≤ room) }
-    ensures bytes { IfOk result (λ p. p.bytes.items ≡ compacted_text (meaning_of choice) n (clauses_in numbers.now)) }
-    ensures account { IfOk result (λ p. p.account ≡ Some (account_of (meaning_of choice) n (clauses_in numbers.now))) }
-{
-    let formula = formula_of(heap, choice, n as usize, numbers, room)?;
-    let compacted = assemble(
-        heap,
-        formula.written.as_slice(),
-        formula.size.clauses,
-        numbers,
-    )?;
-    let variables = n + formula.size.auxiliaries as u32;
-    let bytes = text_of(
-        heap,
-        variables,
-        compacted.as_slice(),
-        HEADER_BYTES + NUMBER_BYTES * numbers.len(),
-    )?;
-    let account = account_of(n, numbers, &formula, compacted.as_slice());
-    Ok(Compacted {
-        bytes,
-        account: Some(account),
-    })
 }
 
 // A fault on a line of its own, with no account.
@@ -260,14 +101,13 @@ fn compact_into(
     let room = numbers.len();
     match read_within(scale, text, numbers) {
         Ok(found) => {
-            let listed = found.numbers;
-            compact_numbers(
-                heap,
-                choice_of(text),
-                found.variables,
-                &numbers[0..listed],
+            let file = File {
+                choice: choice_of(text),
+                variables: found.variables as usize,
+                numbers: &numbers[..found.numbers],
                 room,
-            )
+            };
+            file.compacted(heap)
         }
         Err(fault) => fault_line(heap, fault),
     }
@@ -279,8 +119,19 @@ fn compact_text(heap: Global, scale: Scale, text: &[u8]) -> Result<Compacted, Al
     ensures prints { IfOk result (λ p. p.bytes.items ≡ printed (outcome scale text.now)) }
     ensures account { IfOk result (λ p. p.account ≡ account_in scale text.now) }
 {
-    let mut numbers = vec![in heap; 0i32; number_room(scale, text.len())]?;
+    let mut numbers = vec![in heap; 0i32; scale.number_room(text.len())]?;
     compact_into(heap, scale, text, numbers.as_mut_slice())
+}
+
+// What is printed for an input: its compacted clauses or the fault. A fault is printed and not handed up, so no `?` takes it.
+fn compact_input(heap: Global, scale: Scale, text: &[u8]) -> Result<Compacted, AllocError>
+    ensures prints { IfOk result (λ p. p.bytes.items ≡ printed (outcome scale text.now)) }
+    ensures account { IfOk result (λ p. p.account ≡ account_in scale text.now) }
+{
+    match check_length(scale, text.len()) {
+        Ok(()) => compact_text(heap, scale, text),
+        Err(fault) => fault_line(heap, fault),
+    }
 }
 
 // What is printed for the bytes of a file, its compacted clauses or the fault, and the account of the compaction.
@@ -296,10 +147,7 @@ pub fn compact_with_account(
     ensures never_short { NeverShort }
     ensures account { IfOk result (λ p. p.account ≡ account_in scale text.now) }
 {
-    match check_length(scale, text.len()) {
-        Ok(()) => compact_text(heap, scale, text),
-        Err(fault) => fault_line(heap, fault),
-    }
+    compact_input(heap, scale, text)
 }
 
 // What is printed for the bytes of a file: its compacted clauses, or the fault.

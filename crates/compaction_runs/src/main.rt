@@ -1,4 +1,5 @@
-// Prints what `compact` prints for each file that an argument names.
+// Prints what `compaction::compact` prints for each file that an argument names.
+// `compact_runs` does the same over `compactor`.
 #![tactic(auto)]
 
 use compaction::{Scale, compact};

@@ -16,9 +16,7 @@ mod tests {
         count: usize,
     ) -> Result<Vec<u8>, AllocError> {
         let mut text = front.to_vec(heap)?;
-        for _ in 0..count {
-            text.extend_from_slice(part)?;
-        }
+        text.extend_from_slice(part.repeat(heap, count)?.as_slice())?;
         Ok(text)
     }
 

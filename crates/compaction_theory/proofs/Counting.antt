@@ -1,6 +1,5 @@
 -- The account as the program counts it: new conflicts while they are added, closing zeros for clauses.
-use Rattle.std.proofs.Common.{◌≡◌, ℕ, ◌+◌, ◌*◌, ◌≤◌, Bool, true, false, cond, not, ◌&&◌, ltb, List, [], ◌∷◌, ◌++◌, length, take, drop, ℤ, is_some, is_ok, Some, None, Ok, Err, Option, Result, sym, refl, ap, ◌∙◌, subst, inl, append-nil, arith}
-use Rattle.std.proofs.lemmas.List.{take-append-drop}
+use Rattle.std.proofs.Common.{◌≡◌, ℕ, ◌+◌, ◌*◌, ◌≤◌, Bool, true, false, cond, not, ◌&&◌, ltb, List, [], ◌∷◌, ◌++◌, length, take, ℤ, is_ok, Some, None, Ok, Err, Option, Result, sym, refl, ap, ◌∙◌, subst, inl, append-nil, append_assoc, arith, length-append}
 use Rattle.std.proofs.lemmas.Bool.{cond-true, cond-false, false≢true, lt-ltb}
 use Rattle.std.specs.Option.{option_to_list}
 use Rattle.fault.specs.declared.Fault.{Fault}
@@ -9,10 +8,11 @@ use Rattle.logic.specs.Literal.{index}
 use Rattle.logic.specs.Clause.{In}
 use Rattle.logic.proofs.Literals.{index_below}
 use Rattle.dimacs.specs.declared.Summary.{Summary}
-use Rattle.dimacs.specs.Clauses.{numbers, ClausesOf, closes, closings}
+use Rattle.dimacs.specs.Clauses.{numbers, LiteralsOf, ClausesOf, closes, closings}
 use Rattle.dimacs.specs.Reading.{reading}
 use Rattle.dimacs.proofs.Gathering.{numbers_count}
 use Rattle.encoder_theory.specs.Meaning.{Meaning}
+use Rattle.network_theory.specs.declared.Call.{Call}
 use Rattle.network_theory.specs.declared.Call.TheVariants.{Add}
 use Rattle.network_theory.specs.Layout.{Net, stands}
 use Rattle.network_theory.specs.Calls.{answered, objection, add_answer}
@@ -29,32 +29,21 @@ use Rattle.compaction_theory.specs.Sorted.{onto, clauses_in, conflict_of, confli
 use Rattle.compaction_theory.specs.Choices.{encoder_of, meaning_of, most_bytes}
 use Rattle.compaction_theory.specs.Printed.{cover_of_clauses, compacted, compacted_variables, variables_fit, count_fault, blank}
 use Rattle.compaction_theory.specs.Buffers.{asked, Taken}
-use Rattle.compaction_theory.specs.Account.{differing, account_of, account_read, account_in, new_by, new_to, Counts}
-use Rattle.compaction_theory.specs.Walks.{Walked, Closing, between}
+use Rattle.compaction_theory.specs.Account.{new_after, differing, account_of, account_read, account_in, new_by, new_to, Counts}
+use Rattle.compaction_theory.specs.Walks.{Added}
 use Rattle.compaction_theory.specs.Written.{read_within, Holding}
-use Rattle.compaction_theory.proofs.Accounts.{account_when_printed}
 use Rattle.compaction_theory.proofs.Differing.{differing_more}
-use Rattle.compaction_theory.proofs.Pairs.{Proper, conflict_proper}
+use Rattle.compaction_theory.proofs.Pairs.{Proper, conflict_proper, clauses_counted}
 use Rattle.compaction_theory.proofs.Picked.{lawful_choice}
 use Rattle.compaction_theory.proofs.Related.{undeclined, standing_related}
 use Rattle.compaction_theory.proofs.Sizes.{covered, compacted_of}
-use Rattle.compaction_theory.proofs.Taken.{err_outcome}
-use Rattle.compaction_theory.proofs.Walks.{clauses_more, walked_more, conflicts_more}
+use Rattle.compaction_theory.proofs.Walks.{conflicts_more, asked_more}
 
 -- ---- one clause more on a network
 
 accepted_answer : {X : Type 0} (o : Option Refusal) (x : X) → is_ok (answered o x) ≡ true → answered o x ≡ Ok x
 accepted_answer None x h = refl
 accepted_answer (Some k) x h = absurd (false≢true h)
-
-new_once : (r : Result Bool Fault) → new_by r ≤ 1
-new_once (Ok true) = omega arith
-new_once (Ok false) = omega arith
-new_once (Err f) = omega arith
-
-pub new_few : (net : Net) (o : Option (ℤ × ℤ)) → new_to net o ≤ 1
-new_few net None = omega arith
-new_few net (Some p) = new_once (add_answer net p.0 p.1)
 
 turned : (b : Bool) → cond {A = ℕ} (not b) 1 0 ≡ cond b 0 1
 turned true = refl
@@ -98,16 +87,42 @@ count_one n cs c l net e came = ap differing (conflicts_more cs c) ∙ by (confl
         ap (λ (r : ℕ → ℕ → Bool). cond {A = ℕ} (r (index p.0) (index p.1)) 0 1) same in
         differing_more (conflicts_of cs) p ∙ ap (λ k. differing (conflicts_of cs) + k) (sym (new ∙ f))
 
--- the same on a walk along the numbers
-pub count_more : (n : ℕ) (xs : List ℤ) (at end : ℕ) → Walked xs at → Closing xs at end → ClausesOf n (clauses_in xs)
-    → (net : Net) → net.variables ≡ n → Came net (asked (clauses_in (take at xs)))
-    → differing (conflicts_of (clauses_in (take (end + 1) xs))) ≡ differing (conflicts_of (clauses_in (take at xs))) + new_to net (conflict_of (between xs at end))
-count_more n xs at end walk closing l net e came =
-    let more = clauses_more xs at end walk closing in
-    let all : clauses_in xs ≡ clauses_in (take (end + 1) xs) ++ clauses_in (drop (end + 1) xs) =
-    ap clauses_in (sym (take-append-drop (end + 1) xs)) ∙ (walked_more xs at end walk closing).settled (drop (end + 1) xs) in
-    let front : ClausesOf n (clauses_in (take (end + 1) xs)) = of_left n (clauses_in (take (end + 1) xs)) (clauses_in (drop (end + 1) xs)) (subst (ClausesOf n) all l) in
-    ap (λ (cs : List (List ℤ)). differing (conflicts_of cs)) more ∙ count_one n (clauses_in (take at xs)) (between xs at end) (subst (ClausesOf n) more front) net e came
+-- no more conflicts differ than there are clauses
+new_below : (seen ps : List (ℤ × ℤ)) → new_after seen ps ≤ length ps
+new_below seen [] = omega arith
+new_below seen (p ∷ ps) =
+    let rest = new_below (seen ++ p ∷ []) ps in
+    let one : (b : Bool) → cond {A = ℕ} b 0 1 ≤ 1 = λ b. elim b as (λ t. cond {A = ℕ} t 0 1 ≤ 1) [ true ↦ omega arith | false ↦ omega arith ] in
+    omega (arith, one (related seen (index p.0) (index p.1)))
+
+-- ---- the walk along the clauses, while their conflicts are added
+
+-- no more conflicts have been counted than there are clauses
+pub added_few : (n : ℕ) (cs left : List (List ℤ)) (net : Net) (k : ℕ) → Taken n cs → Added n cs left net k → k ≤ 1_000_000
+added_few n cs left net k t h =
+    let below = new_below [] (conflicts_of h.front) in
+    let few = t.few_clauses in
+    omega (arith, h.counted, clauses_counted h.front, ap length h.parts, length-append h.front left)
+
+-- the clause that comes next,
+pub added_next : (n : ℕ) (cs rest : List (List ℤ)) (c : List ℤ) (left : List (List ℤ)) (net : Net) (k : ℕ) → Taken n cs → Added n cs rest net k → rest ≡ c ∷ left → LiteralsOf n c
+added_next n cs rest c left net k t h e =
+    (subst (ClausesOf n) e (of_right n h.front rest (subst (ClausesOf n) h.parts t.literals))).0
+
+-- and what its conflict adds
+pub added_more : (n : ℕ) (cs rest : List (List ℤ)) (c : List ℤ) (left : List (List ℤ)) (net net' : Net) (k more : ℕ) → Taken n cs → Added n cs rest net k → rest ≡ c ∷ left
+    → net'.variables ≡ net.variables → ((calls : List Call) → Came net calls → Came net' (calls ++ asked (c ∷ [])))
+    → more ≡ new_to net (conflict_of c) → Added n cs left net' (k + more)
+added_more n cs rest c left net net' k more t h e same came counted =
+    let parts : cs ≡ (h.front ++ c ∷ []) ++ left = h.parts ∙ ap (λ ds. h.front ++ ds) e ∙ sym (append_assoc h.front (c ∷ []) left) in
+    let literals : ClausesOf n (h.front ++ c ∷ []) = of_left n (h.front ++ c ∷ []) left (subst (ClausesOf n) parts t.literals) in
+    record {
+      front = h.front ++ c ∷ [];
+      parts = parts;
+      variables = same ∙ h.variables;
+      came = subst (Came net') (sym (asked_more h.front c)) (came (asked h.front) h.came);
+      counted = ap (λ m. k + m) counted ∙ ap (λ m. m + new_to net (conflict_of c)) h.counted ∙ sym (count_one n h.front c literals net h.variables h.came);
+    }
 
 -- ---- clauses by the zeros that close them
 
@@ -154,20 +169,6 @@ account_held choice n clauses t out size h conflicts cliques bicliques k before 
     }
 
 -- ---- which account is told
-
-none_some : (o : Option Account) → is_some o ≡ false → o ≡ None
-none_some None h = refl
-none_some (Some a) h = absurd (false≢true (sym h))
-
--- an input that is too long has none,
-pub long_account : (scale : Scale) (text : List ℕ) → ltb (most_bytes scale) (length text) ≡ true → account_in scale text ≡ None
-long_account scale text h = cond-true _ _ _ h
-
--- nor has one with a fault
-pub err_account : (scale : Scale) (text : List ℕ) (f : Fault) → ltb (most_bytes scale) (length text) ≡ false
-    → ◌≡◌ {A = Result Summary Fault} (Err f) (read_within scale (reading text (blank scale text)).answer) → account_in scale text ≡ None
-err_account scale text f short e =
-    none_some (account_in scale text) (account_when_printed scale text ∙ ap (λ (r : Result (List ℕ) Fault). is_ok r) (err_outcome scale text f short e))
 
 read_account : (scale : Scale) (M : Meaning) (r : Result Summary Fault) (list : List ℤ) (s : Summary) → ◌≡◌ {A = Result Summary Fault} (Ok s) (read_within scale r)
     → account_read scale M r list ≡ Some (account_of M s.variables (clauses_in (take s.numbers list)))

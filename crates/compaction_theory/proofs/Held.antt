@@ -1,5 +1,5 @@
 -- From the buffer that holds the written clauses to the text that is printed.
-use Rattle.std.proofs.Common.{◌≡◌, ℕ, ◌+◌, ◌*◌, ◌<◌, ◌≤◌, Bool, true, false, cond, List, ◌++◌, map, length, drop, ℤ, None, Ok, Err, Result, sym, refl, ap, ◌∙◌, arith}
+use Rattle.std.proofs.Common.{◌≡◌, ℕ, ◌+◌, ◌*◌, ◌<◌, ◌≤◌, Bool, true, false, cond, List, ◌++◌, map, length, ℤ, None, Ok, Err, Result, sym, refl, ap, ◌∙◌, arith}
 use Rattle.std.proofs.lemmas.List.{length-append}
 use Rattle.fault.specs.declared.Fault.{Fault}
 use Rattle.logic.specs.Clause.{Clause, flat}
@@ -8,14 +8,13 @@ use Rattle.dimacs.specs.Clauses.{numbers}
 use Rattle.dimacs.specs.Written.{text_of, write_refusal}
 use Rattle.encoder_theory.specs.Meaning.{Meaning}
 use Rattle.formula_theory.specs.declared.Size.{Size}
-use Rattle.formula_theory.specs.Writing.{written_clauses, clause_count}
-use Rattle.formula_theory.specs.Outcome.{size_of}
+use Rattle.formula_theory.specs.Writing.{written_clauses}
 use Rattle.compaction_theory.specs.declared.Choice.{Choice}
 use Rattle.compaction_theory.specs.Sorted.{others_of}
 use Rattle.compaction_theory.specs.Choices.{meaning_of}
 use Rattle.compaction_theory.specs.Printed.{cover_of_clauses, literals_of, compacted, compacted_variables, compacted_text}
 use Rattle.compaction_theory.specs.Buffers.{Taken}
-use Rattle.compaction_theory.specs.Written.{WroteAll, Holding}
+use Rattle.compaction_theory.specs.Written.{Holding}
 use Rattle.compaction_theory.proofs.Picked.{lawful_choice}
 use Rattle.compaction_theory.proofs.Sizes.{laws}
 use Rattle.compaction_theory.proofs.Fitting.{compacted_writable, texts_fit}
@@ -53,27 +52,3 @@ module _ (choice : Choice) (n : ℕ) (clauses : List (List ℤ)) (t : Taken n cl
       ap (λ m. write_refusal m zs (24 + 12 * length (numbers clauses))) held_variables
       ∙ ap (λ (l : List ℤ). write_refusal (compacted_variables M n clauses) l (24 + 12 * length (numbers clauses))) e
       ∙ texts_fit choice n clauses t (24 + 12 * length (numbers clauses)) (omega arith)
-
-  pub held_text : (zs : List ℤ) → zs ≡ numbers (compacted M n clauses) → text_of (n + size.auxiliaries) zs ≡ compacted_text M n clauses
-  held_text zs e = ap (λ m. text_of m zs) held_variables ∙ ap (text_of (compacted_variables M n clauses)) e
-
-same_answer : {X E : Type 0} (x y : X) → ◌≡◌ {A = Result X E} (Ok x) (Ok y) → x ≡ y
-same_answer x y e = cc
-
--- what an accepted writing leaves
-pub wrote_holds : (n : ℕ) (clauses : List (List ℤ)) (M : Meaning) (list list' out out' kept : List ℤ) (size : Size)
-    → WroteAll n clauses M list list' out out' (Ok size) → kept ≡ out' → Holding n clauses M kept size
-wrote_holds n clauses M list list' out out' kept size w e = record {
-  counts = same_answer size (size_of M (cover_of_clauses n clauses)) w.answer;
-  rest = drop (2 * clause_count M (cover_of_clauses n clauses)) out;
-  written = e ∙ w.written;
-}
-
--- what a test that was not passed says
-pub caught : (b : Bool) (f g : Fault) → ◌≡◌ {A = Result (Unit {0}) Fault} (Err f) (cond b (Err g) (Ok tt)) → (b ≡ true) × (f ≡ g)
-caught true f g e = (refl, cc)
-caught false f g e = let z : ◌≡◌ {A = ℕ} 0 1 = cc in absurd (omega arith)
-
-pub not_caught : (b : Bool) (g : Fault) (x : Unit {0}) → ◌≡◌ {A = Result (Unit {0}) Fault} (Ok x) (cond b (Err g) (Ok tt)) → b ≡ false
-not_caught true g x e = let z : ◌≡◌ {A = ℕ} 0 1 = cc in absurd (omega arith)
-not_caught false g x e = refl

@@ -17,3 +17,4 @@ pub mod Taken
 pub mod Held
 pub mod Decides
 pub mod Counting
+pub mod Props

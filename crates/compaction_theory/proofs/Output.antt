@@ -1,42 +1,48 @@
 -- The numbers of written clauses, each closed by a 0, one clause after another.
-use Rattle.std.proofs.Common.{◌≡◌, ℕ, zero, suc, ◌+◌, ◌*◌, ◌<◌, List, [], ◌∷◌, ◌++◌, map, length, get_or, take, ℤ, pos, sym, refl, ap, ◌∙◌, append_assoc, arith}
-use Rattle.std.proofs.lemmas.List.{map-append, take_more}
+use Rattle.std.proofs.Common.{◌≡◌, ℕ, ◌*◌, ◌<◌, List, [], ◌∷◌, ◌++◌, map, length, take, ℤ, pos, sym, refl, ap, ◌∙◌, append_assoc, append-nil, arith}
+use Rattle.std.proofs.lemmas.List.{take_at}
 use Rattle.logic.specs.Clause.{Clause, flat}
+use Rattle.logic.proofs.Clauses.{length_flat}
 use Rattle.dimacs.specs.Clauses.{numbers}
 use Rattle.compaction_theory.specs.Printed.{literals_of}
-use Rattle.compaction_theory.proofs.Walks.{numbers_append}
+use Rattle.compaction_theory.specs.Walks.{Closed}
 
--- the i-th clause
-abbrev pub clause_at : List Clause → ℕ → Clause
-clause_at W i = get_or W i (pos 0, pos 0)
+pub closed_first : (W : List Clause) (rest written before : List ℤ) (count : ℕ) → length W ≡ count → written ≡ flat W ++ rest → Closed W (take (2 * count) written) before before
+closed_first W rest written before count e w = record {
+  clauses = W;
+  pairs = ap (take (2 * count)) w ∙ take_at (flat W) rest (2 * count) (omega (arith, length_flat W));
+  completed = refl;
+}
 
--- stands at the numbers 2i and 2i + 1
-at_first : (W : List Clause) (rest : List ℤ) (i j : ℕ) → i < length W → j ≡ 2 * i → get_or (flat W ++ rest) j (pos 0) ≡ (clause_at W i).0
-at_first [] rest i j h e = absurd (omega arith)
-at_first (c ∷ W) rest zero j h e = let none : j ≡ 0 = omega arith in ap (λ k. get_or (flat (c ∷ W) ++ rest) k (pos 0)) none
-at_first (c ∷ W) rest (suc i) j h e =
-    let two : j ≡ suc (suc (2 * i)) = omega arith in
-    ap (λ k. get_or (flat (c ∷ W) ++ rest) k (pos 0)) two ∙ at_first W rest i (2 * i) (omega arith) refl
+-- two numbers that come first are a clause
+pair_first : (clauses : List Clause) (pair left : List ℤ) → length pair ≡ 2 → pair ++ left ≡ flat clauses
+    → (c : Clause) × (more : List Clause) × (clauses ≡ c ∷ more) × (pair ≡ literals_of c) × (left ≡ flat more)
+pair_first clauses [] left two e = absurd (omega arith)
+pair_first clauses (x ∷ []) left two e = absurd (omega arith)
+pair_first [] (x ∷ (y ∷ pair)) left two e = let z : ◌≡◌ {A = ℕ} 0 1 = cc in absurd (omega arith)
+pair_first (c ∷ more) (x ∷ (y ∷ [])) left two e = let first : x ≡ c.0 = cc in let second : y ≡ c.1 = cc in let rest : left ≡ flat more = cc in (c, more, refl, (cc), rest)
+pair_first clauses (x ∷ (y ∷ (z ∷ pair))) left two e = absurd (omega arith)
 
-at_second : (W : List Clause) (rest : List ℤ) (i j : ℕ) → i < length W → j ≡ 2 * i + 1 → get_or (flat W ++ rest) j (pos 0) ≡ (clause_at W i).1
-at_second [] rest i j h e = absurd (omega arith)
-at_second (c ∷ W) rest zero j h e = let one : j ≡ 1 = omega arith in ap (λ k. get_or (flat (c ∷ W) ++ rest) k (pos 0)) one
-at_second (c ∷ W) rest (suc i) j h e =
-    let two : j ≡ suc (suc (2 * i + 1)) = omega arith in
-    ap (λ k. get_or (flat (c ∷ W) ++ rest) k (pos 0)) two ∙ at_second W rest i (2 * i + 1) (omega arith) refl
+pub closed_more : (W : List Clause) (rest pair left before put more : List ℤ) → Closed W rest before put → rest ≡ pair ++ left → length pair ≡ 2
+    → more ≡ (put ++ pair) ++ pos 0 ∷ [] → Closed W left before more
+closed_more W rest pair left before put more h e two m =
+    let first = pair_first h.clauses pair left two (sym e ∙ h.pairs) in
+    let c : Clause = first.0 in
+    let others : List ℤ = numbers (map literals_of first.1) in
+    record {
+      clauses = first.1;
+      pairs = first.4;
+      completed =
+          ap (λ l. l ++ others) (m ∙ ap (λ l. (put ++ l) ++ pos 0 ∷ []) first.3)
+          ∙ append_assoc (put ++ literals_of c) (pos 0 ∷ []) others
+          ∙ append_assoc put (literals_of c) (pos 0 ∷ others)
+          ∙ sym (ap (λ V. put ++ numbers (map literals_of V)) first.2)
+          ∙ h.completed;
+    }
 
--- one clause more
-pub clause_more : (old items : List ℤ) (W : List Clause) (rest written : List ℤ) (i : ℕ) → i < length W → written ≡ flat W ++ rest
-    → items ≡ old ++ numbers (map literals_of (take i W))
-    → items ++ get_or written (2 * i) (pos 0) ∷ get_or written (2 * i + 1) (pos 0) ∷ pos 0 ∷ [] ≡ old ++ numbers (map literals_of (take (i + 1) W))
-clause_more old items W rest written i h w inv =
-    let c : Clause = clause_at W i in
-    let one : get_or written (2 * i) (pos 0) ≡ c.0 = ap (λ (l : List ℤ). get_or l (2 * i) (pos 0)) w ∙ at_first W rest i (2 * i) h refl in
-    let two : get_or written (2 * i + 1) (pos 0) ≡ c.1 = ap (λ (l : List ℤ). get_or l (2 * i + 1) (pos 0)) w ∙ at_second W rest i (2 * i + 1) h refl in
-    let more : map literals_of (take (i + 1) W) ≡ map literals_of (take i W) ++ literals_of c ∷ [] =
-    ap (map literals_of) (take_more W i (pos 0, pos 0) h) ∙ map-append literals_of (take i W) (c ∷ []) in
-    ap (λ (l : List ℤ). l ++ get_or written (2 * i) (pos 0) ∷ get_or written (2 * i + 1) (pos 0) ∷ pos 0 ∷ []) inv
-    ∙ ap (λ x. (old ++ numbers (map literals_of (take i W))) ++ x ∷ get_or written (2 * i + 1) (pos 0) ∷ pos 0 ∷ []) one
-    ∙ ap (λ y. (old ++ numbers (map literals_of (take i W))) ++ c.0 ∷ y ∷ pos 0 ∷ []) two
-    ∙ append_assoc old (numbers (map literals_of (take i W))) (c.0 ∷ c.1 ∷ pos 0 ∷ [])
-    ∙ ap (λ (l : List ℤ). old ++ l) (sym (ap numbers more ∙ numbers_append (map literals_of (take i W)) (literals_of c ∷ [])))
+pub closed_all : (W : List Clause) (left before put : List ℤ) → Closed W left before put → length left < 2 → put ≡ before ++ numbers (map literals_of W)
+closed_all W left before put h few = by h.clauses h.pairs h.completed
+  where
+    by : (V : List Clause) → left ≡ flat V → put ++ numbers (map literals_of V) ≡ before ++ numbers (map literals_of W) → put ≡ before ++ numbers (map literals_of W)
+    by [] e k = sym (append-nil put) ∙ k
+    by (c ∷ V) e k = absurd (omega (arith, ap length e))

@@ -19,25 +19,6 @@ use Rattle.compaction_theory.specs.Written.{read_within}
 use Rattle.compaction_theory.proofs.Picked.{clauses_back}
 use Rattle.compaction_theory.proofs.Compacting.{fits_taken}
 
--- an input that is too long is refused
-pub long_outcome : (scale : Scale) (text : List ℕ) → ltb (most_bytes scale) (length text) ≡ true → outcome scale text ≡ Err (length_fault scale)
-long_outcome scale text h = cond-true _ _ _ h
-
--- what was refused is printed as it is
-within_err : (scale : Scale) (M : Meaning) (r : Result Summary Fault) (list : List ℤ) (f : Fault) → ◌≡◌ {A = Result Summary Fault} (Err f) (read_within scale r) → compacted_read scale M r list ≡ Err f
-within_err scale M (Err g) list f e = let same : g ≡ f = cc in ap Err same
-within_err scale M (Ok s) list f e = by (variables_fit scale s.variables) refl
-  where
-    text : List ℕ
-    text = compacted_text M s.variables (clauses_in (take s.numbers list))
-
-    by : (b : Bool) → variables_fit scale s.variables ≡ b → compacted_read scale M (Ok s) list ≡ Err f
-    by true h = let x : ◌≡◌ {A = Result Summary Fault} (Err f) (Ok s) = e ∙ cond-true _ _ _ h in let z : ◌≡◌ {A = ℕ} 0 1 = cc in absurd (omega arith)
-    by false h =
-        let x : ◌≡◌ {A = Result Summary Fault} (Err f) (Err count_fault) = e ∙ cond-false _ _ _ h in
-        let same : count_fault ≡ f = cc in
-        cond-false (variables_fit scale s.variables) (Ok text) (Err count_fault) h ∙ ap Err same
-
 -- what was read with variables that will do
 within_ok : (scale : Scale) (M : Meaning) (r : Result Summary Fault) (list : List ℤ) (s : Summary) → ◌≡◌ {A = Result Summary Fault} (Ok s) (read_within scale r)
     → (compacted_read scale M r list ≡ Ok (compacted_text M s.variables (clauses_in (take s.numbers list)))) × (variables_fit scale s.variables ≡ true)
@@ -55,11 +36,6 @@ within_ok scale M (Ok t) list s e = by (variables_fit scale t.variables) refl
           subst (λ (u : Summary). variables_fit scale u.variables ≡ true) same h,
         )
     by false h = let x : ◌≡◌ {A = Result Summary Fault} (Ok s) (Err count_fault) = e ∙ cond-false _ _ _ h in let z : ◌≡◌ {A = ℕ} 0 1 = cc in absurd (omega arith)
-
-pub err_outcome : (scale : Scale) (text : List ℕ) (f : Fault) → ltb (most_bytes scale) (length text) ≡ false
-    → ◌≡◌ {A = Result Summary Fault} (Err f) (read_within scale (reading text (blank scale text)).answer) → outcome scale text ≡ Err f
-err_outcome scale text f short e =
-    cond-false _ _ _ short ∙ within_err scale (encoder_of text) (reading text (blank scale text)).answer (reading text (blank scale text)).list f e
 
 pub ok_outcome : (scale : Scale) (text : List ℕ) (s : Summary) → ltb (most_bytes scale) (length text) ≡ false
     → ◌≡◌ {A = Result Summary Fault} (Ok s) (read_within scale (reading text (blank scale text)).answer)

@@ -1,14 +1,10 @@
 -- The writing of the program is always accepted.
-use Rattle.std.proofs.Common.{◌≡◌, ℕ, zero, suc, ◌+◌, ◌*◌, ◌≤◌, Bool, true, false, cond, ◌||◌, eqb, ltb, List, [], ◌∷◌, ◌++◌, length, drop, replicate, ℤ, pos, is_some, Some, None, Ok, Option, Result, sym, refl, ap, ◌∙◌, subst, arith}
-use Rattle.std.proofs.lemmas.Bool.{cond-false, or_from, ne_eqb, le-ltb}
+use Rattle.std.proofs.Common.{◌≡◌, ℕ, ◌+◌, ◌*◌, ◌≤◌, Bool, true, false, cond, List, ◌++◌, length, drop, replicate, ℤ, pos, Some, None, Ok, Option, Result, sym, refl, ap, ◌∙◌, subst, arith}
+use Rattle.std.proofs.lemmas.Bool.{or_from}
 use Rattle.fault.specs.declared.Fault.{Fault}
-use Rattle.fault.specs.declared.Refusal.{Refusal}
 use Rattle.logic.specs.Clause.{flat}
-use Rattle.dimacs.specs.Clauses.{numbers, exceeds}
-use Rattle.dimacs.proofs.Numbered.{within_first}
-use Rattle.dimacs.proofs.Gathering.{numbers_within}
+use Rattle.dimacs.specs.Clauses.{numbers}
 use Rattle.encoder_theory.specs.Meaning.{Meaning}
-use Rattle.network_theory.specs.Calls.{most_variables, misfit, opened_variables, opened}
 use Rattle.network_theory.specs.Layout.{Net, words_needed}
 use Rattle.network_theory.specs.Runs.{Came}
 use Rattle.cover_theory.specs.Parts.{Cover}
@@ -23,20 +19,10 @@ use Rattle.compaction_theory.specs.Sorted.{clauses_in}
 use Rattle.compaction_theory.specs.Choices.{meaning_of}
 use Rattle.compaction_theory.specs.Printed.{cover_of_clauses}
 use Rattle.compaction_theory.specs.Buffers.{asked}
-use Rattle.compaction_theory.specs.Walks.{Small, TakenNumbers}
+use Rattle.compaction_theory.specs.Walks.{TakenNumbers}
 use Rattle.compaction_theory.specs.Written.{given, Wrote, WroteNet, WroteAll}
 use Rattle.compaction_theory.proofs.Related.{network_covered}
 use Rattle.compaction_theory.proofs.Fitting.{writings_accepted}
-
--- ---- the numbers of clauses that are taken are small
-
-small_all : (n : ℕ) (xs : List ℤ) → n ≤ most_variables → exceeds n xs ≡ false → Small xs
-small_all n [] few w i h = absurd (omega arith)
-small_all n (z ∷ zs) few w zero h = let p = (within_first n z zs w).0 in omega arith
-small_all n (z ∷ zs) few w (suc i) h = small_all n zs few (within_first n z zs w).1 i (omega arith)
-
-pub taken_small : (n : ℕ) (xs : List ℤ) → TakenNumbers n xs → Small xs
-taken_small n xs t = subst Small (sym t.whole) (small_all n (numbers (clauses_in xs)) t.clauses.few (numbers_within n (clauses_in xs) t.clauses.literals))
 
 -- ---- what is not refused
 
@@ -88,27 +74,3 @@ wrote_all choice n xs t net vars came first e work list list' out out' r words r
     let two : Wrote n (cover_of_clauses n cs) M first work list list' out out' r = subst (λ C. Wrote n C M first work list list' out out' r) cover one in
     let three : Wrote n (cover_of_clauses n cs) M (pos (n + 1)) work list list' out out' r = subst (λ z. Wrote n (cover_of_clauses n cs) M z work list list' out out' r) e two in
     accepted_leaves n cs M work list list' out out' r (writings_accepted choice n cs t.clauses work (length list) (length out) words (omega arith) (omega arith)) three
-
--- a network opened with fit numbers has the variables asked for
-variables_of_opened : (n words : ℕ) → 1 ≤ n → n ≤ most_variables → words_needed n ≤ words → opened_variables n words ≡ n
-variables_of_opened n words some few room =
-    let one : (eqb n 0 || ltb most_variables n) ≡ false = or_from _ _ (ne_eqb n 0 (λ e. omega arith)) (le-ltb most_variables n few) in
-    let two : ltb words (words_needed n) ≡ false = le-ltb words (words_needed n) room in
-    let fit : misfit n words ≡ None = cond-false _ _ _ one ∙ cond-false _ _ _ two in
-    ap (λ (o : Option Refusal). cond (is_some o) 0 n) fit
-
-pub opened_as : (n : ℕ) (xs : List ℤ) → TakenNumbers n xs → (lent : List ℕ) → words_needed n ≤ length lent → (fresh : Net) → fresh ≡ opened n lent → fresh.variables ≡ n
-opened_as n xs t lent room fresh made = ap (λ (x : Net). x.variables) made ∙ variables_of_opened n (length lent) t.clauses.some t.clauses.few room
-
--- the same as `wrote_all`, for the network that was opened, fed and sealed
-pub wrote_fed : (choice : Choice) (n : ℕ) (xs : List ℤ) → TakenNumbers n xs
-    → (lent : List ℕ) → words_needed n ≤ length lent
-    → (fresh fed sealed : Net) → fresh ≡ opened n lent → fed.variables ≡ fresh.variables → sealed ≡ fed → Came sealed (asked (clauses_in xs))
-    → (first : ℤ) → first ≡ pos (n + 1) → (work : ℕ) (list list' out out' : List ℤ) (r : Result Size Fault)
-    → words_needed n ≤ work → length xs ≤ length list → length xs ≤ length out
-    → WroteNet sealed (meaning_of choice) first work list list' out out' r
-    → WroteAll n (clauses_in xs) (meaning_of choice) list list' out out' r
-wrote_fed choice n xs t lent room fresh fed sealed made feed seal came =
-    wrote_all choice n xs t sealed
-    (ap (λ (x : Net). x.variables) seal ∙ feed ∙ opened_as n xs t lent room fresh made)
-    came

@@ -1,5 +1,5 @@
 -- The account of a compaction: what a program tells about its work.
-use Rattle.std.specs.Prelude.{◌≡◌, ℕ, ◌+◌, ◌≤◌, Bool, cond, List, [], ◌∷◌, ◌++◌, length, take, ℤ, is_some, is_ok, Some, None, Ok, Err, Option, Result, nat_lt}
+use Rattle.std.specs.Prelude.{◌≡◌, ℕ, ◌+◌, ◌≤◌, Bool, cond, List, [], ◌∷◌, ◌++◌, length, take, ℤ, is_some, is_ok, Some, None, Ok, Err, Option, Result, nat_lt, codes, decimal}
 use Rattle.fault.specs.declared.Fault.{Fault}
 use Rattle.logic.specs.Literal.{index}
 use Rattle.dimacs.specs.declared.Summary.{Summary}
@@ -41,6 +41,14 @@ account_of M n clauses = record {
   clauses_after = length (compacted M n clauses);
   auxiliaries = auxiliary_count M (cover_of_clauses n clauses);
 }
+
+-- how an account shows: one figure a line
+abbrev pub account_text : Account → List ℕ
+account_text a =
+    (codes "variables " ++ (decimal a.variables ++ (codes "\nconflicts " ++ (decimal a.conflicts ++ codes "\n"))))
+    ++ ((codes "cliques " ++ (decimal a.cliques ++ (codes "\nbicliques " ++ (decimal a.bicliques ++ codes "\n"))))
+    ++ ((codes "clauses before " ++ (decimal a.clauses_before ++ (codes "\nclauses after " ++ (decimal a.clauses_after ++ codes "\n"))))
+    ++ (codes "auxiliaries " ++ decimal a.auxiliaries)))
 
 -- ---- how the conflicts are counted while they are added
 

@@ -1,10 +1,13 @@
-// What the program `compact` prints for the bytes of a file, and what that keeps: definitions and their proofs.
-// A function here does nothing: its contract is a theorem of the definitions.
+// What the programs `compact_small` and `compact_large` print for the bytes of a file, and what that keeps: definitions and their proofs.
+// A function with no body does nothing: its contract is a theorem of the definitions.
 #![tactic(auto)]
 
+ghost use Rattle.std.specs.Prelude.{◌≡◌, Some};
 ghost use Rattle.compaction_theory.specs.Account.{AccountWhenPrinted, EveryFileAccounted, CountsOnce, ConflictsDiffer, CompactionBalances};
 ghost use Rattle.compaction_theory.specs.Buffers.{NetworkCovered, WritingAccepted, FewerNumbers, TextFits, NeverShort};
 ghost use Rattle.compaction_theory.specs.Promises.{EveryFileCompacted, EveryInputDecided, SameFilesPrintAlike, LargeHasRoom};
+
+use std::fmt;
 
 // How large the files are that a program takes.
 #[derive(Clone, Copy)]
@@ -13,6 +16,40 @@ pub enum Scale {
     Small,
     // A whole college: at most 64 MiB and 4,096 variables.
     Large,
+}
+
+impl Scale {
+    ghost use Rattle.compaction_theory.specs.Choices.{most_bytes, most_variables, number_room};
+
+    // The most bytes of an input.
+    pub fn most_bytes(self) -> usize
+        ensures { result ≡ most_bytes self }
+    {
+        match self {
+            Scale::Small => 65_536,
+            Scale::Large => 67_108_864,
+        }
+    }
+
+    // The most variables of a file.
+    pub fn most_variables(self) -> u32
+        ensures { result ≡ most_variables self }
+    {
+        match self {
+            Scale::Small => 256,
+            Scale::Large => 4096,
+        }
+    }
+
+    // How many numbers are read of an input of so many bytes, and how many a part list and a clause buffer hold.
+    pub fn number_room(self, bytes: usize) -> usize
+        ensures { result ≡ number_room self bytes }
+    {
+        match self {
+            Scale::Small => 16_384,
+            Scale::Large => bytes / 2 + 1,
+        }
+    }
 }
 
 // The encoders that a file can pick.
@@ -36,6 +73,32 @@ pub struct Account {
     pub clauses_before: usize,
     pub clauses_after: usize,
     pub auxiliaries: usize,
+}
+
+impl fmt::Display for Account {
+    ghost use Rattle.compaction_theory.specs.Account.{account_text};
+
+    ghost output = { λ a. Some (account_text a) };
+
+    // One figure a line.
+    fn fmt<W: fmt::Write>(&self, f: &mut fmt::Formatter<W>) -> fmt::Result {
+        let Account {
+            variables,
+            conflicts,
+            cliques,
+            bicliques,
+            clauses_before,
+            clauses_after,
+            auxiliaries,
+        } = self;
+        write!(f, "variables {variables}\nconflicts {conflicts}\n")?;
+        write!(f, "cliques {cliques}\nbicliques {bicliques}\n")?;
+        write!(
+            f,
+            "clauses before {clauses_before}\nclauses after {clauses_after}\n"
+        )?;
+        write!(f, "auxiliaries {auxiliaries}")
+    }
 }
 
 // For every file within the limits an equivalent file is printed.

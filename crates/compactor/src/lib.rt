@@ -23,16 +23,13 @@ const MAX_NUMBERS: usize = 16_384;
 // A header takes at most 18 bytes, and a number of at most three digits at most 5.
 const MAX_OUTPUT: usize = 81_938;
 
+// `compaction` has functions like the next ones: there the limits go by a scale, and an account is answered too.
 // More bytes than the limit are a fault at the limit.
 fn check_length(len: usize) -> Result<(), Fault>
     ensures { result ≡ (if nat_lt 65_536 len then Err (fault_at Refusal.ClauseListFull 65_536) else Ok tt) }
 {
     if len > MAX_BYTES {
-        return Err(Fault {
-            refusal: Refusal::ClauseListFull,
-            layer: Layer::Text,
-            place: MAX_BYTES,
-        });
+        return Err(Fault::in_text(Refusal::ClauseListFull, MAX_BYTES));
     }
     Ok(())
 }
@@ -41,12 +38,8 @@ fn check_length(len: usize) -> Result<(), Fault>
 fn check_variables(n: u32) -> Result<(), Fault>
     ensures { result ≡ (if few_variables n then Ok tt else Err count_fault) }
 {
-    if n < 1 || n > MAX_VARIABLES {
-        return Err(Fault {
-            refusal: Refusal::VariableCount,
-            layer: Layer::Network,
-            place: 0,
-        });
+    if !(1..=MAX_VARIABLES).contains(&n) {
+        return Err(Fault::new(Layer::Network, Refusal::VariableCount));
     }
     Ok(())
 }
@@ -60,8 +53,7 @@ fn rewrite(text: &[u8], numbers: &mut [i32], out: &mut [u8]) -> Result<usize, Fa
     check_length(text.len())?;
     let found = read(text, numbers)?;
     check_variables(found.variables)?;
-    let listed = found.numbers;
-    write(found.variables, &numbers[0..listed], out)
+    write(found.variables, &numbers[..found.numbers], out)
 }
 
 // A fault on a line of its own.

@@ -7,9 +7,6 @@ use Rattle.cover_theory.specs.Lies.{numbers, words_holding}
 use Rattle.cover.specs.Outcome.{cover_of_net, remaining_of, words_short, list_short, ending, work_after}
 
 module _ {X : Type 0} (net : Net) (words room : ℕ) (x y z : X) where
-  pub ends_words : words < words_needed net.variables → x ≡ ending net words room x y z
-  ends_words h = sym (cond-true (words_short net words) x _ (lt-ltb words _ h))
-
   module _ (enough : words_needed net.variables ≤ words) where
     pub ends_list : room < length (numbers (cover_of_net net).parts) → y ≡ ending net words room x y z
     ends_list h = sym (cond-false (words_short net words) x _ (le-ltb words _ enough) ∙ cond-true (list_short net room) y z (lt-ltb room _ h))

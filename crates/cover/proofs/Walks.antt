@@ -1,5 +1,5 @@
 -- A list that holds parts is read part by part.
-use Rattle.std.proofs.Common.{◌≡◌, ℕ, zero, suc, ◌+◌, ◌-◌, ◌<◌, ◌≤◌, leb, List, [], ◌∷◌, ◌++◌, length, get_or, drop, replicate, ℤ, pos, negsuc, is_some, Some, None, sym, refl, ap, ◌∙◌, subst, ap₂, append_assoc, arith}
+use Rattle.std.proofs.Common.{◌≡◌, ℕ, zero, suc, ◌+◌, ◌<◌, ◌≤◌, leb, List, [], ◌∷◌, ◌++◌, length, get_or, drop, replicate, ℤ, pos, negsuc, is_some, Some, None, Option, sym, refl, ap, ◌∙◌, subst, ap₂, append_assoc, arith}
 use Rattle.std.proofs.lemmas.List.{get_or-drop, length-drop, length-append, drop_at, drop-drop}
 use Rattle.std.proofs.lemmas.Bool.{cond-true, cond_both, le-leb, leb-true, false≢true}
 use Rattle.cover_theory.specs.Parts.{Part as PartOf, clique, biclique}
@@ -72,17 +72,46 @@ ends room at P (negsuc m) (pos y) e =
 pub part_ends : (list : List ℤ) (at : ℕ) (P : Part) → part_at list at ≡ Some P → (at < end_of P) × (end_of P ≤ length list)
 part_ends list at P e = ends (length list) at P (get_or list at (pos 0)) (get_or list (at + 1) (pos 0)) e
 
--- ---- the walk along all parts
+-- ---- all parts
 
-pub record Walked (list : List ℤ) (at c b z : ℕ) (Ps : List (PartOf ℤ)) : Type 0 where
-  pub left : List (PartOf ℤ)
-  pub sized : Sized left
-  pub here : drop at list ≡ numbers left ++ replicate z (pos 0)
-  pub cliques : c + clique_count left ≡ clique_count Ps
-  pub bicliques : b + biclique_count left ≡ biclique_count Ps
+none_from : (list : List ℤ) (at m : ℕ) → part_at list at ≡ None → parts_from list m at ≡ []
+none_from list at zero e = refl
+none_from list at (suc m) e = ap (λ x. followed x (λ R. parts_from list m (end_of R))) e
 
-pub walk_begins : (list : List ℤ) (z : ℕ) (Ps : List (PartOf ℤ)) → Sized Ps → list ≡ numbers Ps ++ replicate z (pos 0) → Walked list 0 0 0 z Ps
-walk_begins list z Ps s e = record { left = Ps; sized = s; here = e; cliques = omega arith; bicliques = omega arith }
+some_from : (list : List ℤ) (at m : ℕ) (P : Part) → part_at list at ≡ Some P → parts_from list (suc m) at ≡ P ∷ parts_from list m (end_of P)
+some_from list at m P e = ap (λ x. followed x (λ R. parts_from list m (end_of R))) e
+
+past_none : (list : List ℤ) (at : ℕ) → length list ≤ at → part_at list at ≡ None
+past_none list at h = go (part_at list at) refl
+  where
+    go : (o : Option Part) → part_at list at ≡ o → part_at list at ≡ None
+    go None e = e
+    go (Some P) e = let p = part_ends list at P e in absurd (omega (arith, p.0, p.1))
+
+-- however many more parts could be read
+parts_same : (list : List ℤ) (m k at : ℕ) → length list ≤ at + m → length list ≤ at + k → parts_from list m at ≡ parts_from list k at
+parts_same list zero k at p q = sym (none_from list at k (past_none list at (omega arith)))
+parts_same list (suc m) zero at p q = none_from list at (suc m) (past_none list at (omega arith))
+parts_same list (suc m) (suc k) at p q = go (part_at list at) refl (λ P h. parts_same list m k (end_of P) (omega arith) (omega arith))
+  where
+    go : (o : Option Part) → part_at list at ≡ o → ((P : Part) → at < end_of P → parts_from list m (end_of P) ≡ parts_from list k (end_of P)) → parts_from list (suc m) at ≡ parts_from list (suc k) at
+    go None e more = none_from list at (suc m) e ∙ sym (none_from list at (suc k) e)
+    go (Some P) e more = some_from list at m P e ∙ ap (λ l. P ∷ l) (more P (part_ends list at P e).0) ∙ sym (some_from list at k P e)
+
+-- the part at a place is the first of those from there on
+pub first_left : (list : List ℤ) (at at' : ℕ) (P : Part) → Some P ≡ part_at list at → at' ≡ end_of P → parts_from list (length list) at ≡ P ∷ parts_from list (length list) at'
+first_left list at at' P e f =
+    parts_same list (length list) (suc (length list)) at (omega arith) (omega arith) ∙ some_from list at (length list) P (sym e)
+    ∙ ap (λ n. P ∷ parts_from list (length list) n) (sym f)
+
+-- there are no more parts than numbers
+pub parts_few : (list : List ℤ) (m at : ℕ) → length (parts_from list m at) ≤ m
+parts_few list zero at = omega arith
+parts_few list (suc m) at = go (part_at list at) refl (λ P. parts_few list m (end_of P))
+  where
+    go : (o : Option Part) → part_at list at ≡ o → ((P : Part) → length (parts_from list m (end_of P)) ≤ m) → length (parts_from list (suc m) at) ≤ suc m
+    go None e more = omega (arith, ap length (none_from list at (suc m) e))
+    go (Some P) e more = omega (arith, ap length (some_from list at m P e), more P)
 
 sized_one : (Q : PartOf ℤ) (Qs : List (PartOf ℤ)) → Sized (Q ∷ Qs) → Sized (Q ∷ []) × Sized Qs
 sized_one (clique ms) Qs s = ((s.0, tt), s.1)
@@ -92,84 +121,21 @@ counted : (at : ℕ) (Q : PartOf ℤ) (Qs : List (PartOf ℤ)) → (clique_count
 counted at (clique ms) Qs = (omega arith, omega arith)
 counted at (biclique xs ys) Qs = (omega arith, omega arith)
 
-module _ (list : List ℤ) (at c b z : ℕ) (Ps : List (PartOf ℤ)) where
-  go_on : (Qs : List (PartOf ℤ)) → Sized Qs → drop at list ≡ numbers Qs ++ replicate z (pos 0) → c + clique_count Qs ≡ clique_count Ps → b + biclique_count Qs ≡ biclique_count Ps
-      → (P : Part) → part_at list at ≡ Some P → Walked list (end_of P) (c + cliques_in P) (b + bicliques_in P) z Ps
-  go_on [] s e p q P h = absurd (false≢true (ap is_some (sym (part_none list at z e) ∙ h)))
-  go_on (Q ∷ Qs) s e p q P h =
-      let o = sized_one Q Qs s in
-      let r = part_here list at Q (numbers Qs ++ replicate z (pos 0)) o.0 (e ∙ append_assoc (numbers_of Q) (numbers Qs) (replicate z (pos 0))) in
-      let k = counted at Q Qs in
-      let f : placed at Q ≡ P = let g = sym r.0 ∙ h in cc in
-      subst (λ X. Walked list (end_of X) (c + cliques_in X) (b + bicliques_in X) z Ps) f
-      (record { left = Qs; sized = o.1; here = r.1; cliques = omega (arith, k.0, p); bicliques = omega (arith, k.1, q) })
+-- where a list holds a cover's parts, as many cliques and bicliques are read as those
+read_from : (list : List ℤ) (z m at : ℕ) (Ps : List (PartOf ℤ)) → length list ≤ at + m → Sized Ps → drop at list ≡ numbers Ps ++ replicate z (pos 0)
+    → (summed cliques_in (parts_from list m at) ≡ clique_count Ps) × (summed bicliques_in (parts_from list m at) ≡ biclique_count Ps)
+read_from list z m at [] h s e =
+    let n = none_from list at m (part_none list at z e) in
+    (ap (summed cliques_in) n, ap (summed bicliques_in) n)
+read_from list z m at (Q ∷ Qs) h s e =
+    let o = sized_one Q Qs s in
+    let here = part_here list at Q (numbers Qs ++ replicate z (pos 0)) o.0 (e ∙ append_assoc (numbers_of Q) (numbers Qs) (replicate z (pos 0))) in
+    let ends = part_ends list at (placed at Q) here.0 in
+    let k = counted at Q Qs in
+    let step = parts_same list m (suc m) at h (omega arith) ∙ some_from list at m (placed at Q) here.0 in
+    let rest = read_from list z m (end_of (placed at Q)) Qs (omega (arith, ends.0)) o.1 here.1 in
+    (omega (arith, ap (summed cliques_in) step, rest.0, k.0), omega (arith, ap (summed bicliques_in) step, rest.1, k.1))
 
-  pub walk_on : Walked list at c b z Ps → (P : Part) → part_at list at ≡ Some P → Walked list (end_of P) (c + cliques_in P) (b + bicliques_in P) z Ps
-  walk_on w = go_on w.left w.sized w.here w.cliques w.bicliques
-
-  go_end : (Qs : List (PartOf ℤ)) → Sized Qs → drop at list ≡ numbers Qs ++ replicate z (pos 0) → c + clique_count Qs ≡ clique_count Ps → b + biclique_count Qs ≡ biclique_count Ps
-      → part_at list at ≡ None → (c ≡ clique_count Ps) × (b ≡ biclique_count Ps)
-  go_end [] s e p q h = (omega arith, omega arith)
-  go_end (Q ∷ Qs) s e p q h =
-      let r = part_here list at Q (numbers Qs ++ replicate z (pos 0)) (sized_one Q Qs s).0 (e ∙ append_assoc (numbers_of Q) (numbers Qs) (replicate z (pos 0))) in
-      absurd (false≢true (ap is_some (sym h ∙ r.0)))
-
-  pub walk_ends : Walked list at c b z Ps → part_at list at ≡ None → (c ≡ clique_count Ps) × (b ≡ biclique_count Ps)
-  walk_ends w = go_end w.left w.sized w.here w.cliques w.bicliques
-
-one_kind : (P : Part) → (1 - cliques_in P ≡ bicliques_in P) × (cliques_in P + bicliques_in P ≡ 1)
-one_kind (Clique at size) = (refl, refl)
-one_kind (Biclique at left right) = (refl, refl)
-
--- ---- the count of all parts that are read
-
--- c cliques and b bicliques were read before `at`
-pub record Counting (list : List ℤ) (at c b : ℕ) : Type 0 where
-  pub most : ℕ
-  pub enough : length list ≤ at + most
-  pub cliques : c + summed cliques_in (parts_from list most at) ≡ summed cliques_in (parts_in list)
-  pub bicliques : b + summed bicliques_in (parts_from list most at) ≡ summed bicliques_in (parts_in list)
-
-pub count_begins : (list : List ℤ) → Counting list 0 0 0
-count_begins list = record { most = length list; enough = omega arith; cliques = omega arith; bicliques = omega arith }
-
-none_from : (list : List ℤ) (at m : ℕ) → part_at list at ≡ None → parts_from list m at ≡ []
-none_from list at zero e = refl
-none_from list at (suc m) e = ap (λ x. followed x (λ R. parts_from list m (end_of R))) e
-
-pub count_ends : (list : List ℤ) (at c b : ℕ) → Counting list at c b → part_at list at ≡ None
-    → (c ≡ summed cliques_in (parts_in list)) × (b ≡ summed bicliques_in (parts_in list))
-count_ends list at c b w e =
-    let n = none_from list at w.most e in
-    (omega (arith, w.cliques, ap (summed cliques_in) n), omega (arith, w.bicliques, ap (summed bicliques_in) n))
-
--- one turn of the loop that counts
-module _ (list : List ℤ) (at c b : ℕ) (P : Part) (at' k k' : ℕ) (read : Some P ≡ part_at list at) (ke : k ≡ cliques_in P) (ke' : k' ≡ cliques_in P) (ae : at' ≡ end_of P) where
-  pub turn_room : c + b ≤ at → (at' ≤ length list) × (c + k + (b + (1 - k')) ≤ at')
-  turn_room h = let e = part_ends list at P (sym read) in let o = one_kind P in (omega (arith, e.1), omega (arith, e.0, o.0, o.1))
-
-  pub turn_walks : (z : ℕ) (Ps : List (PartOf ℤ)) → Walked list at c b z Ps → Walked list at' (c + k) (b + (1 - k')) z Ps
-  turn_walks z Ps w =
-      let o = one_kind P in
-      subst (λ x. Walked list x (c + k) (b + (1 - k')) z Ps) (sym ae)
-      (subst (λ x. Walked list (end_of P) (c + x) (b + (1 - k')) z Ps) (sym ke)
-      (subst (λ x. Walked list (end_of P) (c + cliques_in P) (b + x) z Ps) (sym o.0 ∙ ap (λ y. 1 - y) (sym ke')) (walk_on list at c b z Ps w P (sym read))))
-
-  -- and what it counts are the parts that are read
-  pub turn_counts : Counting list at c b → Counting list at' (c + k) (b + (1 - k'))
-  turn_counts w = by w.most w.enough w.cliques w.bicliques
-    where
-      by : (m : ℕ) → length list ≤ at + m → c + summed cliques_in (parts_from list m at) ≡ summed cliques_in (parts_in list)
-          → b + summed bicliques_in (parts_from list m at) ≡ summed bicliques_in (parts_in list) → Counting list at' (c + k) (b + (1 - k'))
-      by zero h p q = let e = part_ends list at P (sym read) in absurd (omega (arith, e.0, e.1))
-      by (suc m) h p q =
-          let e = part_ends list at P (sym read) in
-          let o = one_kind P in
-          let f : parts_from list (suc m) at ≡ P ∷ parts_from list m (end_of P) = ap (λ x. followed x (λ R. parts_from list m (end_of R))) (sym read) in
-          let g : parts_from list m at' ≡ parts_from list m (end_of P) = ap (parts_from list m) ae in
-          record {
-            most = m;
-            enough = omega (arith, e.0);
-            cliques = omega (arith, ap (summed cliques_in) f, ap (summed cliques_in) g);
-            bicliques = omega (arith, ap (summed bicliques_in) f, ap (summed bicliques_in) g, o.0);
-          }
+pub parts_read : (list : List ℤ) (Ps : List (PartOf ℤ)) (z : ℕ) → Sized Ps → list ≡ numbers Ps ++ replicate z (pos 0)
+    → (summed cliques_in (parts_in list) ≡ clique_count Ps) × (summed bicliques_in (parts_in list) ≡ biclique_count Ps)
+parts_read list Ps z s e = read_from list z (length list) 0 Ps (omega arith) s e

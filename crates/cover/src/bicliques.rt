@@ -1,39 +1,28 @@
 // The bicliques of the cover.
-ghost use Rattle.std.specs.Prelude.{◌≡◌, ℕ, ◌+◌, ◌-◌, ◌*◌, ◌/◌, ◌%◌, ◌^◌, ◌<◌, ◌≤◌, true, false, not, ◌&&◌, ◌||◌, ◌⊎◌, List, [], ◌∷◌, ◌++◌, map, length, take, drop, ℤ, pos, if◌then◌else◌, MatchOption, nat_le, nat_lt, slice_index};
-ghost use Rattle.std.specs.Int.Count.{ones};
-ghost use Rattle.std.specs.Int.Bits.{bit_and, bit_or, bit_xor};
-ghost use Rattle.network_theory.specs.Layout.{bit};
-ghost use Rattle.cover_theory.specs.Rows.{Degrees, SidesIn, sides_part, marked, stands_at, conflicts, Tidy, Loose, Bare, Lowest, Masks, listed, Fit, Went, First, told, held, Neat, Widens};
-ghost use Rattle.cover_theory.specs.Rule.{grown, among, without, visit, visits, sweep, Side, count as counted, shared, score, chosen, better, widen, joined_by, those, first_best, everyone, started_by, grown_sides, without_sides, bicliques};
-ghost use Rattle.cover_theory.specs.Lies.{minus};
+ghost use Rattle.std.specs.Prelude.{◌≡◌, ℕ, ◌+◌, ◌*◌, ◌<◌, ◌≤◌, ◌||◌, map, length, if◌then◌else◌, MatchOption, nat_le, nat_lt, slice_index};
+ghost use Rattle.filling.specs.Filled.{after};
+ghost use Rattle.filling.specs.Views.{filled};
 ghost use Rattle.logic.specs.Literal.{literal};
-ghost use Rattle.cover_theory.specs.Parts.{Part, clique};
+ghost use Rattle.cover_theory.specs.Lies.{minus};
+ghost use Rattle.cover_theory.specs.Rows.{Degrees, SidesIn, sides_part, marked, listed, told, held, Neat, Widens};
+ghost use Rattle.cover_theory.specs.Rule.{count as counted, shared, score, chosen, better, those, first_best, everyone, started_by, grown_sides, without_sides, bicliques};
+ghost use Rattle.cover.specs.Views.{rel_of, rel_in, Moved};
 
-use super::cliques::{erase, lacks_room, literal_of};
-use super::masks::*;
+use crate::cliques::{has_room, literal_of};
+use crate::mask::{Mask, Sides};
+use crate::remaining::Remaining;
+use crate::rows::Rows;
+use crate::words::MOST_LITERALS;
+use filling::Filling;
 
-// How many of the mask conflict with u.
-fn common(words: &[u64], rows: usize, count: usize, u: usize, mask: &[u64]) -> usize
-    requires { (Fit count rows words.now) × ((u < count) × (rows ≤ length mask.now)) }
-    ensures value { result ≡ counted (shared (conflicts count rows words.now) (held count mask.now) u) count 0 }
-    ensures bound { result ≤ 8192 }
+fn score_of(rows: &Rows, c: usize, sides: &Sides) -> usize
+    requires { c < rows.now.count }
+    ensures { result ≡ score rows.now.count (rel_of rows.now) (held rows.now.count sides.now.left.words) (held rows.now.count sides.now.right.words) c }
 {
-    let base = u * rows;
-    let mut n = 0;
-    for i in 0..rows {
-        n += tally(words[base + i] & mask[i]);
-    }
-    n
-}
-
-fn score_of(words: &[u64], rows: usize, count: usize, c: usize, a: &[u64], b: &[u64]) -> usize
-    requires fit { (Fit count rows words.now) × ((c < count) × ((rows ≤ length a.now) × (rows ≤ length b.now))) }
-    ensures { result ≡ score count (conflicts count rows words.now) (held count a.now) (held count b.now) c }
-{
-    if test(a, c) {
+    if sides.left.contains(c) {
         0
     } else {
-        common(words, rows, count, c, b) + 1
+        rows.common(c, &sides.right) + 1
     }
 }
 
@@ -52,7 +41,7 @@ fn no_gain(x: usize, y: usize) -> bool
     x * y <= x + y
 }
 
-// One more literal on side A, which leaves d on side B, makes the gain of x against y larger.
+// One more literal on the left, which leaves d on the right, makes the gain of x against y larger.
 fn improves(x: usize, y: usize, d: usize) -> bool
     requires { (x ≤ 8192) × ((y ≤ 8192) × (d ≤ 8192)) }
     ensures { result ≡ better x y (x + 1) d }
@@ -62,37 +51,35 @@ fn improves(x: usize, y: usize, d: usize) -> bool
 
 // The score of `c`, or some number up to `top` if the score is not above `top`. No score is more than one above the degree.
 fn score_above(
-    words: &[u64],
-    rows: usize,
-    count: usize,
-    degrees: &[u16],
+    rows: &Rows,
+    degrees: &[u16; MOST_LITERALS],
     c: usize,
-    a: &[u64],
-    b: &[u64],
+    sides: &Sides,
     top: usize,
 ) -> usize
-    requires fit { (Fit count rows words.now) × ((c < count) × ((rows ≤ length a.now) × ((rows ≤ length b.now) × (count ≤ length degrees.now)))) }
-    requires degrees { Degrees count (conflicts count rows words.now) degrees.now }
-    ensures above { top < result → result ≡ score count (conflicts count rows words.now) (held count a.now) (held count b.now) c }
-    ensures below { result ≤ top → score count (conflicts count rows words.now) (held count a.now) (held count b.now) c ≤ top }
+    requires literal { c < rows.now.count }
+    requires degrees { Degrees rows.now.count (rel_of rows.now) degrees.now }
+    ensures above { top < result → result ≡ score rows.now.count (rel_of rows.now) (held rows.now.count sides.now.left.words) (held rows.now.count sides.now.right.words) c }
+    ensures below { result ≤ top → score rows.now.count (rel_of rows.now) (held rows.now.count sides.now.left.words) (held rows.now.count sides.now.right.words) c ≤ top }
 {
     if degrees[c] as usize + 1 <= top {
         return 0;
     }
-    score_of(words, rows, count, c, a, b)
+    score_of(rows, c, sides)
 }
 
-// The literal outside `a` with most conflicts into `b`, the lowest at ties.
-fn pick(words: &[u64], rows: usize, count: usize, degrees: &[u16], a: &[u64], b: &[u64]) -> usize
-    requires fit { (Fit count rows words.now) × ((0 < count) × ((rows ≤ length a.now) × ((rows ≤ length b.now) × (count ≤ length degrees.now)))) }
-    requires degrees { Degrees count (conflicts count rows words.now) degrees.now }
-    ensures value { result ≡ chosen count (conflicts count rows words.now) (held count a.now) (held count b.now) }
-    ensures bound { result < count }
+// The literal outside the left with most conflicts into the right, the lowest at ties.
+// A loop, since the best so far lets most scores go uncounted: `max_by_key` would count each.
+fn pick(rows: &Rows, degrees: &[u16; MOST_LITERALS], sides: &Sides) -> usize
+    requires some { 0 < rows.now.count }
+    requires degrees { Degrees rows.now.count (rel_of rows.now) degrees.now }
+    ensures value { result ≡ chosen rows.now.count (rel_of rows.now) (held rows.now.count sides.now.left.words) (held rows.now.count sides.now.right.words) }
+    ensures bound { result < rows.now.count }
 {
     let mut best = 0;
-    let mut top = score_of(words, rows, count, 0, a, b);
-    for c in 0..count {
-        let s = score_above(words, rows, count, degrees, c, a, b, top);
+    let mut top = score_of(rows, 0, sides);
+    for c in 0..rows.count {
+        let s = score_above(rows, degrees, c, sides, top);
         if beats(s, top) {
             best = c;
             top = s;
@@ -102,118 +89,53 @@ fn pick(words: &[u64], rows: usize, count: usize, degrees: &[u16], a: &[u64], b:
 }
 
 // The sides grow as long as the gain does.
-fn widen_sides(
-    words: &[u64],
-    rows: usize,
-    count: usize,
-    degrees: &[u16],
-    a: &mut [u64],
-    b: &mut [u64],
-)
-    requires fit { (Fit count rows words.now) × ((0 < count) × (count ≤ 8192)) }
-    requires room { (rows ≤ length a.old) × (rows ≤ length b.old) }
-    requires degrees { (count ≤ length degrees.now) × (Degrees count (conflicts count rows words.now) degrees.now) }
-    requires neat { (Neat count rows a.old) × (Neat count rows b.old) }
-    ensures neat { (Neat count rows a.new) × (Neat count rows b.new) }
-    ensures sides { Widens count (conflicts count rows words.now) a.old b.old a.new b.new }
+fn widen_sides(rows: &Rows, degrees: &[u16; MOST_LITERALS], sides: &mut Sides)
+    requires some { 0 < rows.now.count }
+    requires degrees { Degrees rows.now.count (rel_of rows.now) degrees.now }
+    requires left { Neat rows.now.count rows.now.width sides.old.left.words }
+    requires right { Neat rows.now.count rows.now.width sides.old.right.words }
+    ensures left { Neat rows.now.count rows.now.width sides.new.left.words }
+    ensures right { Neat rows.now.count rows.now.width sides.new.right.words }
+    ensures sides { Widens rows.now.count (rel_of rows.now) sides.old.left.words sides.old.right.words sides.new.left.words sides.new.right.words }
 {
-    for i in 0..count {
-        let c = pick(words, rows, count, degrees, a, b);
-        let x = size(a, rows, count);
-        let y = size(b, rows, count);
-        let d = common(words, rows, count, c, b);
-        if improves(x, y, d) {
-            join(a, c);
-            meet(b, words, c * rows, 0, rows);
-        } else {
+    for _step in 0..rows.count {
+        let c = pick(rows, degrees, sides);
+        let x = sides.left.len(rows.width);
+        let y = sides.right.len(rows.width);
+        if !improves(x, y, rows.common(c, &sides.right)) {
             return;
         }
+        sides.left.insert(c);
+        sides.right.meet(rows.row(c), 0);
     }
 }
 
-// Takes the conflicts between two sides away.
-fn sever(words: &mut [u64], rows: usize, count: usize, a: &[u64], b: &[u64])
-    requires room { (rows ≤ length a.now) × ((rows ≤ length b.now) × ((count * rows ≤ length words.old) × (count ≤ 64 * rows))) }
-    ensures gone { (u j : ℕ) → u < count → j < 64 * rows → stands_at words.new rows u j ≡ (stands_at words.old rows u j && not ((marked a.now u && marked b.now j) || (marked b.now u && marked a.now j))) }
-    ensures rest { (i : ℕ) → count * rows ≤ i → slice_index words.new i ≡ slice_index words.old i }
+// Puts the literals of a mask into the list, by index.
+fn emit_side(list: &mut Filling<i32>, mask: &Mask, count: usize)
+    requires few { count ≤ 8192 }
+    requires room { counted (held count mask.now.words) count 0 ≤ length (filled list.old).rest }
+    ensures { filled list.new ≡ after (filled list.old) (map literal (those (held count mask.now.words) count 0)) }
 {
     for u in 0..count {
-        sever_row(words, rows, u, a, b);
-    }
-}
-
-fn sever_row(words: &mut [u64], rows: usize, u: usize, a: &[u64], b: &[u64])
-    requires room { (rows ≤ length a.now) × ((rows ≤ length b.now) × ((u * rows + rows ≤ length words.old) × (u / 64 < rows))) }
-    ensures inside { (j : ℕ) → j < 64 * rows → stands_at words.new rows u j ≡ (stands_at words.old rows u j && not ((marked a.now u && marked b.now j) || (marked b.now u && marked a.now j))) }
-    ensures before { (k : ℕ) → k < u * rows → slice_index words.new k ≡ slice_index words.old k }
-    ensures after { (k : ℕ) → u * rows + rows ≤ k → slice_index words.new k ≡ slice_index words.old k }
-{
-    erase_if(words, rows, u, a, b);
-    erase_if(words, rows, u, b, a);
-}
-
-fn erase_if(words: &mut [u64], rows: usize, u: usize, on: &[u64], off: &[u64])
-    requires room { (rows ≤ length on.now) × ((rows ≤ length off.now) × ((u * rows + rows ≤ length words.old) × (u / 64 < rows))) }
-    ensures inside { (j : ℕ) → j < 64 * rows → stands_at words.new rows u j ≡ (stands_at words.old rows u j && not (marked on.now u && marked off.now j)) }
-    ensures before { (k : ℕ) → k < u * rows → slice_index words.new k ≡ slice_index words.old k }
-    ensures after { (k : ℕ) → u * rows + rows ≤ k → slice_index words.new k ≡ slice_index words.old k }
-{
-    if test(on, u) {
-        erase(words, rows, u, off);
-    }
-}
-
-// Writes the literals of a mask into the list, by index, and answers where they end.
-fn emit_side(
-    list: &mut [i32],
-    at: usize,
-    mask: &[u64],
-    rows: usize,
-    count: usize,
-    k: usize,
-) -> usize
-    requires room { (rows ≤ length mask.now) × ((count ≤ 64 * rows) × (count ≤ 8192)) }
-    requires fits { (k ≡ counted (held count mask.now) count 0) × (at + k ≤ length list.old) }
-    ensures end { result ≡ at + k }
-    ensures list { list.new ≡ take at list.old ++ (map literal (those (held count mask.now) count 0) ++ drop (at + k) list.old) }
-{
-    let mut to = at;
-    for j in 0..count {
-        if test(mask, j) {
-            list[to] = literal_of(j);
-            to += 1;
+        if mask.contains(u) {
+            list.push(literal_of(u));
         }
     }
-    to
-}
-
-// How many remaining conflicts u has.
-fn degree(words: &[u64], rows: usize, count: usize, u: usize) -> usize
-    requires { (Fit count rows words.now) × (u < count) }
-    ensures value { result ≡ counted (shared (conflicts count rows words.now) (everyone count) u) count 0 }
-    ensures bound { result ≤ 8192 }
-{
-    let base = u * rows;
-    let mut n = 0;
-    for i in 0..rows {
-        n += tally(words[base + i]);
-    }
-    n
 }
 
 // Counts the remaining conflicts of each literal.
-fn count_degrees(words: &[u64], rows: usize, count: usize, degrees: &mut [u16])
-    requires { (Fit count rows words.now) × (count ≤ length degrees.old) }
-    ensures { Degrees count (conflicts count rows words.now) degrees.new }
+fn count_degrees(rows: &Rows, degrees: &mut [u16; MOST_LITERALS])
+    ensures { Degrees rows.now.count (rel_of rows.now) degrees.new }
 {
-    for u in 0..count {
-        degrees[u] = degree(words, rows, count, u) as u16;
+    for u in 0..rows.count {
+        degrees[u] = rows.degree(u) as u16;
     }
 }
 
 // The literal of the largest degree, the lowest at ties.
-fn fullest(degrees: &[u16], count: usize) -> usize
-    requires { (count ≤ length degrees.now) × (0 < count) }
+// A loop as in `pick`: `max_by_key` keeps the last of equals, so it would have to go through the literals in reverse.
+fn fullest(degrees: &[u16; MOST_LITERALS], count: usize) -> usize
+    requires { (0 < count) × (count ≤ 8192) }
     ensures value { result ≡ first_best (λ c. slice_index degrees.now c + 1) count 0 0 }
     ensures bound { result < count }
 {
@@ -229,73 +151,34 @@ fn fullest(degrees: &[u16], count: usize) -> usize
     best
 }
 
-// The mask becomes the row at `base`.
-fn copy_row(mask: &mut [u64], words: &[u64], base: usize, rows: usize)
-    requires { (rows ≤ length mask.old) × (base + rows ≤ length words.now) }
-    ensures { (k : ℕ) → k < rows → slice_index mask.new k ≡ slice_index words.now (base + k) }
+// The left is c alone, and the right all that c still conflicts with.
+fn start_sides(rows: &Rows, c: usize, sides: &mut Sides)
+    requires { c < rows.now.count }
+    ensures { SidesIn rows.now.count rows.now.width sides.new.left.words sides.new.right.words (started_by rows.now.count (rel_of rows.now) c) }
 {
-    for i in 0..rows {
-        mask[i] = words[base + i];
-    }
-}
-
-// Side `a` is c alone, and `b` all that c still conflicts with.
-fn start_sides(words: &[u64], rows: usize, count: usize, c: usize, a: &mut [u64], b: &mut [u64])
-    requires fit { (Fit count rows words.now) × ((c < count) × ((rows ≤ length a.old) × (rows ≤ length b.old))) }
-    ensures { SidesIn count rows a.new b.new (started_by count (conflicts count rows words.now) c) }
-{
-    wipe(a, rows);
-    join(a, c);
-    copy_row(b, words, c * rows, rows);
+    sides.left.clear(rows.width);
+    sides.left.insert(c);
+    sides.right.copy_row(rows.row(c));
 }
 
 // The sides that grow from the fullest literal.
-fn grow_sides(
-    words: &[u64],
-    rows: usize,
-    count: usize,
-    degrees: &[u16],
-    a: &mut [u64],
-    b: &mut [u64],
-)
-    requires fit { (Fit count rows words.now) × ((0 < count) × ((count ≤ 8192) × ((rows ≤ length a.old) × (rows ≤ length b.old)))) }
-    requires degrees { (count ≤ length degrees.now) × (Degrees count (conflicts count rows words.now) degrees.now) }
-    ensures { SidesIn count rows a.new b.new (grown_sides count (conflicts count rows words.now)) }
+fn grow_sides(rows: &Rows, degrees: &[u16; MOST_LITERALS], sides: &mut Sides)
+    requires some { 0 < rows.now.count }
+    requires degrees { Degrees rows.now.count (rel_of rows.now) degrees.now }
+    ensures { SidesIn rows.now.count rows.now.width sides.new.left.words sides.new.right.words (grown_sides rows.now.count (rel_of rows.now)) }
 {
-    let c = fullest(degrees, count);
-    start_sides(words, rows, count, c, a, b);
-    widen_sides(words, rows, count, degrees, a, b);
+    start_sides(rows, fullest(degrees, rows.count), sides);
+    widen_sides(rows, degrees, sides);
 }
 
-// The degree of u, counted anew if u is in either mask.
-fn renewed(
-    words: &[u64],
-    rows: usize,
-    count: usize,
-    u: usize,
-    old: u16,
-    a: &[u64],
-    b: &[u64],
-) -> u16
-    requires { (Fit count rows words.now) × ((u < count) × ((rows ≤ length a.now) × (rows ≤ length b.now))) }
-    ensures { result ≡ (if marked a.now u || marked b.now u then counted (shared (conflicts count rows words.now) (everyone count) u) count 0 else old) }
+// Counts anew the degrees of the literals on either side.
+fn recount(rows: &Rows, degrees: &mut [u16; MOST_LITERALS], sides: &Sides)
+    ensures { (u : ℕ) → u < rows.now.count → slice_index degrees.new u ≡ (if marked sides.now.left.words u || marked sides.now.right.words u then counted (shared (rel_of rows.now) (everyone rows.now.count) u) rows.now.count 0 else slice_index degrees.old u) }
 {
-    if test(a, u) {
-        return degree(words, rows, count, u) as u16;
-    }
-    if test(b, u) {
-        return degree(words, rows, count, u) as u16;
-    }
-    old
-}
-
-// Counts anew the degrees of the literals in either mask.
-fn recount(words: &[u64], rows: usize, count: usize, degrees: &mut [u16], a: &[u64], b: &[u64])
-    requires { (Fit count rows words.now) × ((rows ≤ length a.now) × ((rows ≤ length b.now) × (count ≤ length degrees.old))) }
-    ensures { (u : ℕ) → u < count → slice_index degrees.new u ≡ (if marked a.now u || marked b.now u then counted (shared (conflicts count rows words.now) (everyone count) u) count 0 else slice_index degrees.old u) }
-{
-    for u in 0..count {
-        degrees[u] = renewed(words, rows, count, u, degrees[u], a, b);
+    for u in 0..rows.count {
+        if sides.contains(u) {
+            degrees[u] = rows.degree(u) as u16;
+        }
     }
 }
 
@@ -307,84 +190,61 @@ fn negated(x: usize) -> i32
     -(x as i32)
 }
 
-// Writes a biclique of x literals against y into the list.
-fn emit_sides(
-    list: &mut [i32],
-    at: usize,
-    rows: usize,
-    count: usize,
-    a: &[u64],
-    b: &[u64],
-    x: usize,
-    y: usize,
-)
-    requires room { (rows ≤ length a.now) × ((rows ≤ length b.now) × ((count ≤ 64 * rows) × ((count ≤ 8192) × (at + x + y + 2 ≤ length list.old)))) }
-    requires sizes { (x ≡ counted (held count a.now) count 0) × ((y ≡ counted (held count b.now) count 0) × ((x ≤ 8192) × (y ≤ 8192))) }
-    ensures { list.new ≡ take at list.old ++ (listed (sides_part count a.now b.now) ++ drop (at + x + y + 2) list.old) }
+// Puts a biclique of x literals against y into the list.
+fn emit_sides(list: &mut Filling<i32>, count: usize, sides: &Sides, x: usize, y: usize)
+    requires room { (count ≤ 8192) × (x + y + 2 ≤ length (filled list.old).rest) }
+    requires left { (x ≡ counted (held count sides.now.left.words) count 0) × (x ≤ 8192) }
+    requires right { (y ≡ counted (held count sides.now.right.words) count 0) × (y ≤ 8192) }
+    ensures { filled list.new ≡ after (filled list.old) (listed (sides_part count sides.now.left.words sides.now.right.words)) }
 {
-    list[at] = negated(x);
-    list[at + 1] = y as i32;
-    emit_side(list, at + 2, a, rows, count, x);
-    emit_side(list, at + 2 + x, b, rows, count, y);
+    list.push(negated(x));
+    list.push(y as i32);
+    emit_side(list, &sides.left, count);
+    emit_side(list, &sides.right, count);
 }
 
-// Writes the sides into the list, if it has room for them, and takes their conflicts away. None: the list is too short.
+// Puts the sides into the list, if it has room for them, and takes their conflicts away. None: the list is too short.
 fn take_sides(
-    words: &mut [u64],
-    rows: usize,
-    count: usize,
-    list: &mut [i32],
-    at: usize,
-    a: &[u64],
-    b: &[u64],
+    remaining: &mut Remaining,
+    list: &mut Filling<i32>,
+    sides: &Sides,
     x: usize,
     y: usize,
-) -> Option<usize>
-    requires fit { (Fit count rows words.old) × ((count ≤ 8192) × ((at ≤ length list.old) × ((rows ≤ length a.now) × (rows ≤ length b.now)))) }
-    requires sizes { (x ≡ counted (held count a.now) count 0) × ((y ≡ counted (held count b.now) count 0) × ((x ≤ 8192) × (y ≤ 8192))) }
+) -> Option<()>
+    requires left { (x ≡ counted (held remaining.old.count sides.now.left.words) remaining.old.count 0) × (x ≤ 8192) }
+    requires right { (y ≡ counted (held remaining.old.count sides.now.right.words) remaining.old.count 0) × (y ≤ 8192) }
     ensures { MatchOption result
-        (length list.old < length (told (take at list.old) (sides_part count a.now b.now)))
-        (λ to. Went count rows words.old words.new list.old list.new at to (without_sides (conflicts count rows words.old) (held count a.now, held count b.now), told (take at list.old) (sides_part count a.now b.now))) }
+        (length (filled list.old).put + length (filled list.old).rest < length (told (filled list.old).put (sides_part remaining.old.count sides.now.left.words sides.now.right.words)))
+        (λ _. Moved remaining.old remaining.new (filled list.old) (filled list.new) (without_sides (rel_in remaining.old) (held remaining.old.count sides.now.left.words, held remaining.old.count sides.now.right.words), told (filled list.old).put (sides_part remaining.old.count sides.now.left.words sides.now.right.words))) }
 {
-    if lacks_room(list.len(), at, x + y + 2) {
-        return None;
-    }
-    emit_sides(list, at, rows, count, a, b, x, y);
-    sever(words, rows, count, a, b);
-    Some(at + x + y + 2)
+    has_room(list, x + y + 2)?;
+    emit_sides(list, remaining.count, sides, x, y);
+    remaining.sever(sides);
+    Some(())
 }
 
 // The bicliques: one after the other, as long as there is a gain. None: the list is too short.
 pub(crate) fn find_bicliques(
-    words: &mut [u64],
-    rows: usize,
-    count: usize,
-    list: &mut [i32],
-    at: usize,
-    a: &mut [u64],
-    b: &mut [u64],
-    degrees: &mut [u16],
-) -> Option<usize>
-    requires fit { (Fit count rows words.old) × ((0 < count) × ((count ≤ 8192) × (at ≤ length list.old))) }
-    requires room { (rows ≤ length a.old) × ((rows ≤ length b.old) × (count ≤ length degrees.old)) }
+    remaining: &mut Remaining,
+    list: &mut Filling<i32>,
+    sides: &mut Sides,
+    degrees: &mut [u16; MOST_LITERALS],
+) -> Option<()>
+    requires { 0 < remaining.old.count }
     ensures { MatchOption result
-        (length list.old < length (bicliques told count (count * count) (conflicts count rows words.old, take at list.old)).1)
-        (λ to. Went count rows words.old words.new list.old list.new at to (bicliques told count (count * count) (conflicts count rows words.old, take at list.old))) }
+        (length (filled list.old).put + length (filled list.old).rest < length (bicliques told remaining.old.count (remaining.old.count * remaining.old.count) (rel_in remaining.old, (filled list.old).put)).1)
+        (λ _. Moved remaining.old remaining.new (filled list.old) (filled list.new) (bicliques told remaining.old.count (remaining.old.count * remaining.old.count) (rel_in remaining.old, (filled list.old).put))) }
 {
-    count_degrees(words, rows, count, degrees);
-    let mut used = at;
-    for i in 0..count * count {
-        grow_sides(words, rows, count, degrees, a, b);
-        let x = size(a, rows, count);
-        let y = size(b, rows, count);
+    count_degrees(&remaining.rows(), degrees);
+    for _step in 0..remaining.count * remaining.count {
+        grow_sides(&remaining.rows(), degrees, sides);
+        let x = sides.left.len(remaining.width);
+        let y = sides.right.len(remaining.width);
         if no_gain(x, y) {
-            return Some(used);
+            break;
         }
-        let Some(to) = take_sides(words, rows, count, list, used, a, b, x, y) else {
-            return None;
-        };
-        recount(words, rows, count, degrees, a, b);
-        used = to;
+        take_sides(remaining, list, sides, x, y)?;
+        recount(&remaining.rows(), degrees, sides);
     }
-    Some(used)
+    Some(())
 }

@@ -1,12 +1,19 @@
 // The cliques of the cover: every pair that remains is visited, and grows a clique.
-ghost use Rattle.std.specs.Prelude.{◌≡◌, ℕ, ◌+◌, ◌-◌, ◌*◌, ◌/◌, ◌<◌, ◌≤◌, true, not, ◌&&◌, [], ◌++◌, length, take, drop, MatchOption, nat_le, nat_lt, slice_index};
-ghost use Rattle.network_theory.specs.Layout.{bit};
-ghost use Rattle.cover_theory.specs.Rows.{marked, stands_at, conflicts, Tidy, Loose, listed, Fit, Went, told};
-ghost use Rattle.cover_theory.specs.Rule.{grown, among, without, visit, visits, sweep};
+ghost use Rattle.std.specs.Prelude.{◌≡◌, ℕ, ◌+◌, ◌-◌, ◌*◌, ◌/◌, ◌<◌, ◌≤◌, true, ◌&&◌, length, MatchOption, nat_le, slice_index};
+ghost use Rattle.filling.specs.Filled.{after};
+ghost use Rattle.filling.specs.Views.{filled};
 ghost use Rattle.logic.specs.Literal.{literal};
 ghost use Rattle.cover_theory.specs.Parts.{clique};
+ghost use Rattle.cover_theory.specs.Rows.{marked, stands_at, listed, told};
+ghost use Rattle.cover_theory.specs.Rule.{grown, visit, visits, sweep};
+ghost use Rattle.cover.specs.Views.{rel_of, rel_in, Moved};
 
-use super::masks::*;
+use crate::mask::Mask;
+use crate::remaining::Remaining;
+use crate::rows::Rows;
+use crate::words::{WORD_BITS, above};
+use filling::Filling;
+use logic::literal_at;
 
 // A clique has at most so many members.
 pub(crate) const MOST_MEMBERS: usize = 256;
@@ -14,212 +21,134 @@ pub(crate) const MOST_MEMBERS: usize = 256;
 // A clique becomes a part if it has at least so many members.
 const SMALLEST_CLIQUE: usize = 6;
 
-// The literal of an index.
+// The literal of an index of a network. A public function would ask something of its callers, so formula has this line too.
 pub(crate) fn literal_of(u: usize) -> i32
     requires { u < 8192 }
     ensures { result ≡ literal u }
 {
-    if u % 2 == 0 {
-        (u / 2 + 1) as i32
-    } else {
-        -((u / 2 + 1) as i32)
-    }
+    literal_at(u).unwrap()
 }
 
-// The literals after w that conflict with u and with w.
-fn start(mask: &mut [u64], words: &[u64], count: usize, u: usize, w: usize, rows: usize)
-    requires room { (rows ≤ length mask.old) × ((count * rows ≤ length words.now) × ((rows ≤ 128) × (count ≤ 64 * rows))) }
-    requires pair { (u < count) × (w < count) }
-    ensures { (j : ℕ) → 64 * ((w + 1) / 64) ≤ j → j < 64 * rows → marked mask.new j ≡ (nat_le (w + 1) j && (stands_at words.now rows u j && stands_at words.now rows w j)) }
+// Whether so many numbers more have room in the list.
+pub(crate) fn has_room(list: &Filling<i32>, size: usize) -> Option<()>
+    ensures { MatchOption result (length (filled list.now).rest < size) (λ _. size ≤ length (filled list.now).rest) }
+{
+    if list.room() < size {
+        return None;
+    }
+    Some(())
+}
+
+// The mask of the literals after w that conflict with u and with w.
+fn start(rows: &Rows, u: usize, w: usize, mask: &mut Mask)
+    requires { (u < rows.now.count) × (w < rows.now.count) }
+    ensures { (j : ℕ) → 64 * ((w + 1) / 64) ≤ j → j < 64 * rows.now.width → marked mask.new.words j ≡ (nat_le (w + 1) j && (stands_at rows.now.words.now rows.now.width u j && stands_at rows.now.words.now rows.now.width w j)) }
 {
     let from = (w + 1) / WORD_BITS;
-    share(mask, words, u * rows, w * rows, from, rows);
-    if from < rows {
-        mask[from] = above(mask[from], (w + 1) % WORD_BITS);
+    mask.share(rows.row(u), rows.row(w), from);
+    if from < rows.width {
+        mask.words[from] = above(mask.words[from], (w + 1) % WORD_BITS);
     }
 }
 
-// Grows the clique from u and w, and answers how many members it has.
-fn grow(
-    words: &[u64],
-    rows: usize,
-    count: usize,
+// Grows the clique from u and w.
+fn grow<'m>(
+    rows: &Rows,
     u: usize,
     w: usize,
-    mask: &mut [u64],
-    members: &mut [usize],
-) -> usize
-    requires room { (rows ≤ length mask.old) × ((count * rows ≤ length words.now) × (length members.old ≡ 256)) }
-    requires pair { (u < w) × ((w < count) × ((rows ≤ 128) × (count ≤ 64 * rows))) }
-    requires tidy { Tidy count rows words.now }
-    requires loose { Loose count rows words.now }
-    ensures within { result ≤ 256 }
-    ensures places { (i : ℕ) → i < result → slice_index members.new i < count }
-    ensures grows { take result members.new ≡ grown count (conflicts count rows words.now) u w }
+    mask: &mut Mask,
+    members: &'m mut [usize; MOST_MEMBERS],
+) -> &'m [usize]
+    requires { (u < w) × (w < rows.now.count) }
+    ensures within { length result.now ≤ 256 }
+    ensures places { (i : ℕ) → i < length result.now → slice_index result.now i < rows.now.count }
+    ensures grows { result.now ≡ grown rows.now.count (rel_of rows.now) u w }
 {
     members[0] = u;
     members[1] = w;
-    start(mask, words, count, u, w, rows);
-    let mut k = 2;
+    start(rows, u, w, mask);
     let mut from = w + 1;
-    while k < MOST_MEMBERS {
-        let Some(c) = next(mask, from / WORD_BITS, rows) else {
-            break;
+    for k in 2..MOST_MEMBERS {
+        let Some(c) = mask.first_from(from, rows.width) else {
+            return &members[..k];
         };
         members[k] = c;
-        k += 1;
-        meet(mask, words, c * rows, c / WORD_BITS, rows);
+        mask.meet(rows.row(c), c / WORD_BITS);
         from = c + 1;
     }
-    k
+    members
 }
 
-// The mask of the k first members.
-fn paint(mask: &mut [u64], members: &[usize], k: usize, rows: usize)
-    requires { (rows ≤ length mask.old) × ((k ≤ length members.now) × (((i : ℕ) → i < k → slice_index members.now i < 64 * rows))) }
-    ensures { (j : ℕ) → j < 64 * rows → marked mask.new j ≡ among (take k members.now) j }
+// Puts a clique into the list: its size, and its members as literals.
+fn emit(list: &mut Filling<i32>, members: &[usize])
+    requires room { length members.now + 1 ≤ length (filled list.old).rest }
+    requires members { (length members.now ≤ 256) × ((i : ℕ) → i < length members.now → slice_index members.now i < 8192) }
+    ensures { filled list.new ≡ after (filled list.old) (listed (clique members.now)) }
 {
-    wipe(mask, rows);
-    for i in 0..k {
-        let c = members[i];
-        mask[c / WORD_BITS] = with(mask[c / WORD_BITS], c % WORD_BITS);
+    list.push(members.len() as i32);
+    for &u in members {
+        list.push(literal_of(u));
     }
-}
-
-// Takes the mask's bits out of the row of u.
-pub(crate) fn erase(words: &mut [u64], rows: usize, u: usize, mask: &[u64])
-    requires { (rows ≤ length mask.now) × (u * rows + rows ≤ length words.old) }
-    ensures inside { (i j : ℕ) → i < rows → bit (slice_index words.new (u * rows + i)) j ≡ (bit (slice_index words.old (u * rows + i)) j && not (bit (slice_index mask.now i) j)) }
-    ensures before { (k : ℕ) → k < u * rows → slice_index words.new k ≡ slice_index words.old k }
-    ensures after { (k : ℕ) → u * rows + rows ≤ k → slice_index words.new k ≡ slice_index words.old k }
-{
-    let base = u * rows;
-    for i in 0..rows {
-        words[base + i] = less(words[base + i], mask[i]);
-    }
-}
-
-// Takes the conflicts among the k first members away.
-fn remove(
-    words: &mut [u64],
-    rows: usize,
-    count: usize,
-    members: &[usize],
-    k: usize,
-    mask: &mut [u64],
-)
-    requires room { (rows ≤ length mask.old) × ((count * rows ≤ length words.old) × ((k ≤ length members.now) × (count ≤ 64 * rows))) }
-    requires within { (i : ℕ) → i < k → slice_index members.now i < count }
-    ensures gone { (u j : ℕ) → u < count → j < 64 * rows → stands_at words.new rows u j ≡ (stands_at words.old rows u j && not (among (take k members.now) u && among (take k members.now) j)) }
-    ensures left { conflicts count rows words.new ≡ without (conflicts count rows words.old) (take k members.now) }
-    ensures rest { (i : ℕ) → count * rows ≤ i → slice_index words.new i ≡ slice_index words.old i }
-{
-    paint(mask, members, k, rows);
-    for i in 0..k {
-        erase(words, rows, members[i], mask);
-    }
-}
-
-// Writes a clique into the list: its size, and its members as literals.
-fn emit(list: &mut [i32], at: usize, members: &[usize], k: usize)
-    requires { (at + k + 1 ≤ length list.old) × ((k ≤ length members.now) × ((k ≤ 256) × (((i : ℕ) → i < k → slice_index members.now i < 8192)))) }
-    ensures { list.new ≡ take at list.old ++ (listed (clique (take k members.now)) ++ drop (at + k + 1) list.old) }
-{
-    list[at] = k as i32;
-    for i in 0..k {
-        list[at + 1 + i] = literal_of(members[i]);
-    }
-}
-
-// A list of `len` numbers has no room for so many from `at` on.
-pub(crate) fn lacks_room(len: usize, at: usize, size: usize) -> bool
-    requires { at ≤ len }
-    ensures { result ≡ nat_lt (len - at) size }
-{
-    len - at < size
 }
 
 // Visits the pair u, w, which remains: its clique becomes a part if it has six members or more. None: the list is too short.
 fn visit_pair(
-    words: &mut [u64],
-    rows: usize,
-    count: usize,
+    remaining: &mut Remaining,
     u: usize,
     w: usize,
-    list: &mut [i32],
-    at: usize,
-    mask: &mut [u64],
-    members: &mut [usize],
-) -> Option<usize>
-    requires fit { (Fit count rows words.old) × ((count ≤ 8192) × (at ≤ length list.old)) }
-    requires room { (rows ≤ length mask.old) × (length members.old ≡ 256) }
-    requires pair { (u < w) × ((w < count) × (stands_at words.old rows u w ≡ true)) }
+    list: &mut Filling<i32>,
+    mask: &mut Mask,
+    members: &mut [usize; MOST_MEMBERS],
+) -> Option<()>
+    requires { (u < w) × (rel_in remaining.old u w ≡ true) }
     ensures { MatchOption result
-        (length list.old < length (visit told count (conflicts count rows words.old, take at list.old) u w).1)
-        (λ to. Went count rows words.old words.new list.old list.new at to (visit told count (conflicts count rows words.old, take at list.old) u w)) }
+        (length (filled list.old).put + length (filled list.old).rest < length (visit told remaining.old.count (rel_in remaining.old, (filled list.old).put) u w).1)
+        (λ _. Moved remaining.old remaining.new (filled list.old) (filled list.new) (visit told remaining.old.count (rel_in remaining.old, (filled list.old).put) u w)) }
 {
-    let k = grow(words, rows, count, u, w, mask, members);
-    if k < SMALLEST_CLIQUE {
-        return Some(at);
+    let clique = grow(&remaining.rows(), u, w, mask, members);
+    if clique.len() < SMALLEST_CLIQUE {
+        return Some(());
     }
-    if lacks_room(list.len(), at, k + 1) {
-        return None;
-    }
-    emit(list, at, members, k);
-    remove(words, rows, count, members, k, mask);
-    Some(at + k + 1)
+    has_room(list, clique.len() + 1)?;
+    emit(list, clique);
+    remaining.remove(clique, mask);
+    Some(())
 }
 
-// Visits the pairs of u and the literals after it.
+// Visits the pairs of u and the literals after it. A visit changes the rows, so no iterator over them can be held.
 fn visit_row(
-    words: &mut [u64],
-    rows: usize,
-    count: usize,
+    remaining: &mut Remaining,
     u: usize,
-    list: &mut [i32],
-    at: usize,
-    mask: &mut [u64],
-    members: &mut [usize],
-) -> Option<usize>
-    requires fit { (Fit count rows words.old) × ((count ≤ 8192) × (at ≤ length list.old)) }
-    requires room { (rows ≤ length mask.old) × ((length members.old ≡ 256) × (u < count)) }
+    list: &mut Filling<i32>,
+    mask: &mut Mask,
+    members: &mut [usize; MOST_MEMBERS],
+) -> Option<()>
+    requires { u < remaining.old.count }
     ensures { MatchOption result
-        (length list.old < length (visits told count (conflicts count rows words.old, take at list.old) u (count - (u + 1)) (u + 1)).1)
-        (λ to. Went count rows words.old words.new list.old list.new at to (visits told count (conflicts count rows words.old, take at list.old) u (count - (u + 1)) (u + 1))) }
+        (length (filled list.old).put + length (filled list.old).rest < length (visits told remaining.old.count (rel_in remaining.old, (filled list.old).put) u (remaining.old.count - (u + 1)) (u + 1)).1)
+        (λ _. Moved remaining.old remaining.new (filled list.old) (filled list.new) (visits told remaining.old.count (rel_in remaining.old, (filled list.old).put) u (remaining.old.count - (u + 1)) (u + 1))) }
 {
-    let mut used = at;
     let mut from = u + 1;
-    while let Some(w) = after(words, rows, u, from) {
-        let Some(to) = visit_pair(words, rows, count, u, w, list, used, mask, members) else {
-            return None;
-        };
-        used = to;
+    while let Some(w) = remaining.rows().first_from(u, from) {
+        visit_pair(remaining, u, w, list, mask, members)?;
         from = w + 1;
     }
-    Some(used)
+    Some(())
 }
 
 // The cliques: visits every pair that remains.
 pub(crate) fn find_cliques(
-    words: &mut [u64],
-    rows: usize,
-    count: usize,
-    list: &mut [i32],
-    mask: &mut [u64],
-    members: &mut [usize],
-) -> Option<usize>
-    requires fit { (Fit count rows words.old) × (count ≤ 8192) }
-    requires room { (rows ≤ length mask.old) × (length members.old ≡ 256) }
+    remaining: &mut Remaining,
+    list: &mut Filling<i32>,
+    mask: &mut Mask,
+    members: &mut [usize; MOST_MEMBERS],
+) -> Option<()>
     ensures { MatchOption result
-        (length list.old < length (sweep told count (conflicts count rows words.old, []) count 0).1)
-        (λ to. Went count rows words.old words.new list.old list.new 0 to (sweep told count (conflicts count rows words.old, []) count 0)) }
+        (length (filled list.old).put + length (filled list.old).rest < length (sweep told remaining.old.count (rel_in remaining.old, (filled list.old).put) remaining.old.count 0).1)
+        (λ _. Moved remaining.old remaining.new (filled list.old) (filled list.new) (sweep told remaining.old.count (rel_in remaining.old, (filled list.old).put) remaining.old.count 0)) }
 {
-    let mut used = 0;
-    for u in 0..count {
-        let Some(to) = visit_row(words, rows, count, u, list, used, mask, members) else {
-            return None;
-        };
-        used = to;
+    for u in 0..remaining.count {
+        visit_row(remaining, u, list, mask, members)?;
     }
-    Some(used)
+    Some(())
 }

@@ -10,24 +10,29 @@
 
 mod bicliques;
 mod cliques;
-mod masks;
+mod mask;
 mod phases;
+mod remaining;
+mod rows;
+mod words;
 
 ghost use Rattle.std.specs.Prelude.{◌≡◌, ℕ, ◌+◌, ◌*◌, ◌^◌, ◌<◌, ◌≤◌, true, ◌↔◌, List, [], ◌∷◌, ◌++◌, length, drop, replicate, ℤ, pos, Some};
-ghost use Rattle.network_theory.specs.Layout.{row_words, words_needed, Conflict, Mutual, Apart, Trimmed};
+ghost use Rattle.network_theory.specs.Layout.{words_needed, Conflict, Mutual, Apart, Trimmed};
 ghost use Rattle.network_theory.specs.Calls.{most_variables};
 ghost use Rattle.network.specs.Views.{net_of};
 ghost use Rattle.cover_theory.specs.Parts.{Partition, Part as PartOf};
 ghost use Rattle.cover.specs.Outcome.{net_in, conflicts_of, cover_of_net, remaining_of, cover_answer, work_after, list_after};
-ghost use Rattle.cover.specs.Walk.{placed, end_of, within, biclique_from, part_from, part_at, cliques_in, bicliques_in, parts_in, summed};
+ghost use Rattle.cover.specs.Walk.{placed, end_of, within, part_at, cliques_in, bicliques_in, parts_in, summed};
 ghost use Rattle.cover_theory.specs.Lies.{numbers_of, numbers, clique_count, biclique_count};
 ghost use Rattle.cover_theory.specs.Rows.{Sized};
 ghost use Rattle.cover_theory.specs.Rule.{Ended, GrowthSettles};
 
 use fault::{Fault, Layer, Refusal};
-use masks::WORD_BITS;
-use network::Sealed;
-use phases::*;
+use filling::Filling;
+use network::{Sealed, row_words};
+use phases::find_parts;
+use remaining::Remaining;
+pub use rows::{Conflicts, Rows};
 
 // What a cover counts: its cliques, its bicliques, the conflicts that remain, and the numbers of the list that its parts take.
 #[derive(Clone, Copy, PartialEq, Eq, Debug)]
@@ -52,58 +57,26 @@ pub enum Part {
     },
 }
 
-// The clique of `size` members that begins at `at`, if it lies within so many numbers.
-fn clique_within(room: usize, at: usize, size: usize) -> Option<Part>
-    requires { (at < room) × (size < 2 ^ 32) }
-    ensures { result ≡ within room (Part.Clique (at + 1) size) }
-{
-    if size <= room - at - 1 {
-        Some(Part::Clique { at: at + 1, size })
-    } else {
-        None
-    }
-}
-
-// The biclique that begins at `at`, if it lies within so many numbers.
-fn biclique_within(room: usize, at: usize, left: usize, right: usize) -> Option<Part>
-    requires { (at + 1 < room) × ((left < 2 ^ 32) × (right < 2 ^ 32)) }
-    ensures { result ≡ within room (Part.Biclique (at + 2) left right) }
-{
-    if left + right <= room - at - 2 {
-        Some(Part::Biclique {
-            at: at + 2,
-            left,
-            right,
-        })
-    } else {
-        None
-    }
-}
-
 // The part that begins at a place of the list, if one does.
 fn read_part(list: &[i32], at: usize) -> Option<Part>
     ensures { result ≡ part_at list.now at }
 {
-    if at >= list.len() {
-        return None;
-    }
-    let head = list[at];
+    let head = *list.get(at)?;
     if head > 0 {
-        return clique_within(list.len(), at, head.unsigned_abs() as usize);
+        let size = head.unsigned_abs() as usize;
+        return Part::Clique { at: at + 1, size }.within(list.len());
     }
-    if head == 0 || list.len() - at < 2 {
+    let next = *list.get(at + 1)?;
+    if head == 0 || next < 0 {
         return None;
     }
-    let next = list[at + 1];
-    if next < 0 {
-        return None;
+    let (left, right) = (head.unsigned_abs() as usize, next.unsigned_abs() as usize);
+    Part::Biclique {
+        at: at + 2,
+        left,
+        right,
     }
-    biclique_within(
-        list.len(),
-        at,
-        head.unsigned_abs() as usize,
-        next.unsigned_abs() as usize,
-    )
+    .within(list.len())
 }
 
 // The part that begins at a place of the list, if one does: where the numbers of a part stand, that part is read.
@@ -126,14 +99,47 @@ impl Part {
         }
     }
 
-    // How many cliques the part is: one or none.
-    fn cliques(self) -> usize
-        ensures { result ≡ cliques_in self }
+    // The part, if it lies within so many numbers.
+    fn within(self, room: usize) -> Option<Part>
+        requires { end_of self < 2 ^ 64 }
+        ensures { result ≡ within room self }
     {
-        match self {
-            Part::Clique { .. } => 1,
-            Part::Biclique { .. } => 0,
-        }
+        if self.end() <= room { Some(self) } else { None }
+    }
+}
+
+// The parts of a list, one after the other, up to the first place where none begins.
+#[derive(Drop)]
+pub struct Parts<'a> {
+    list: &'a [i32],
+    at: usize,
+}
+
+impl<'a> Iterator for Parts<'a> {
+    ghost use Rattle.std.specs.Iterator.{YieldsFirst, item_count};
+    ghost use Rattle.cover.specs.Left.{parts_left};
+
+    type Item = Part;
+
+    ghost next_gives = { YieldsFirst parts_left };
+
+    ghost remaining = { item_count parts_left };
+
+    fn next(&mut self) -> Option<Part> {
+        let part = read_part(self.list, self.at)?;
+        self.at = part.end();
+        Some(part)
+    }
+}
+
+impl<'a> Parts<'a> {
+    ghost use Rattle.cover.specs.Left.{parts_left};
+
+    // The parts of a list from its start on.
+    pub fn new(list: &'a [i32]) -> Parts<'a>
+        ensures { parts_left result ≡ parts_in list.now }
+    {
+        Parts { list, at: 0 }
     }
 }
 
@@ -144,32 +150,13 @@ pub fn count_parts(list: &[i32]) -> (usize, usize)
 {
     let mut cliques = 0;
     let mut bicliques = 0;
-    let mut at = 0;
-    while let Some(part) = read_part(list, at) {
-        cliques += part.cliques();
-        bicliques += 1 - part.cliques();
-        at = part.end();
+    for part in Parts::new(list) {
+        match part {
+            Part::Clique { .. } => cliques += 1,
+            Part::Biclique { .. } => bicliques += 1,
+        }
     }
     (cliques, bicliques)
-}
-
-// The fault of a refused call.
-fn refused(refusal: Refusal, layer: Layer) -> Fault
-    ensures { result ≡ record { refusal = refusal; layer = layer; place = 0 } }
-{
-    Fault {
-        refusal,
-        layer,
-        place: 0,
-    }
-}
-
-// The words of a row.
-fn row_words(n: usize) -> usize
-    requires { n ≤ most_variables }
-    ensures { result ≡ row_words n }
-{
-    (2 * n).div_ceil(WORD_BITS)
 }
 
 // Covers the conflicts of `n` variables that lie in `words`, with just as many work words as they need.
@@ -185,21 +172,26 @@ fn cover_exactly(
     ensures words { work.new ≡ work_after (net_in n words.now) work.old (length list.old) }
     ensures list { list.new ≡ list_after (net_in n words.now) (length work.old) list.old }
 {
-    let rows = row_words(n);
-    let needed = work.len();
-    copy_words(words, work, needed);
-    let Some(used) = find_parts(work, rows, 2 * n, list) else {
-        zero_words(work, needed);
-        zero_list(list, 0);
-        return Err(refused(Refusal::PartListShort, Layer::Cover));
+    work.copy_from_slice(&words[..work.len()]);
+    let mut remaining = Remaining {
+        words: work,
+        width: row_words(n),
+        count: 2 * n,
     };
-    zero_list(list, used);
+    let mut parts = Filling::new(list);
+    if find_parts(&mut remaining, &mut parts).is_none() {
+        work.fill(0);
+        list.fill(0);
+        return Err(Fault::new(Layer::Cover, Refusal::PartListShort));
+    }
+    let left = remaining.rows().conflicts();
+    let used = parts.len;
+    list[used..].fill(0);
     let (cliques, bicliques) = count_parts(list);
-    let remaining = count_remaining(work, rows, 2 * n);
     Ok(Covered {
         cliques,
         bicliques,
-        remaining,
+        remaining: left,
         used,
     })
 }
@@ -219,7 +211,7 @@ fn cover_words(
 {
     let needed = 2 * n * row_words(n);
     if work.len() < needed {
-        return Err(refused(Refusal::WordsShort, Layer::Network));
+        return Err(Fault::new(Layer::Network, Refusal::WordsShort));
     }
     cover_exactly(n, words, &mut work[0..needed], list)
 }

@@ -7,7 +7,7 @@ mod networks;
 use anyhow::anyhow;
 use cover::cover;
 use network::{Open, fits};
-use networks::Random;
+use networks::{Kind, Network, Random};
 use std::env;
 use std::time::Instant;
 
@@ -16,7 +16,7 @@ const MOST_WORDS: usize = 1_048_576;
 
 const LIST: usize = 4_000_000;
 
-fn run(rt: &HostRuntime, kind: &str, n: usize, seed: u64) -> anyhow::Result<()> {
+fn run(rt: &HostRuntime, kind: Kind, n: usize, seed: u64) -> anyhow::Result<()> {
     let heap = rt.alloc();
     let Ok(needed) = fits(n, MOST_WORDS) else {
         return Err(anyhow!("a network has 1 to 4096 variables"));
@@ -24,9 +24,13 @@ fn run(rt: &HostRuntime, kind: &str, n: usize, seed: u64) -> anyhow::Result<()> 
     let mut words = vec![in heap; 0u64; needed]?;
     let mut work = vec![in heap; 0u64; needed]?;
     let mut list = vec![in heap; 0i32; LIST]?;
-    let mut random = Random { state: seed };
-    let mut net = Open::open(n, words.as_mut_slice());
-    let conflicts = networks::fill(&mut net, heap, kind, n, &mut random)?;
+    let mut network = Network {
+        net: Open::open(n, words.as_mut_slice()),
+        conflicts: 0,
+        random: Random { state: seed },
+    };
+    network.fill(heap, kind, n)?;
+    let Network { net, conflicts, .. } = network;
     let net = net.seal();
     let start = Instant::now(rt)?;
     let Ok(covered) = cover(&net, work.as_mut_slice(), list.as_mut_slice()) else {
@@ -53,7 +57,7 @@ fn main(rt: HostRuntime) -> anyhow::Result<()> {
     };
     run(
         &rt,
-        kind.as_str(),
+        Kind::from(kind.as_str()),
         n.as_str().parse::<usize>()?,
         seed.as_str().parse::<u64>()?,
     )

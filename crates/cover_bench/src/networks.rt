@@ -26,26 +26,23 @@ impl Random {
     }
 }
 
-// Adds the conflict of two indices, and tells how many are new: 1 or 0.
-fn join(net: &mut Open, u: usize, w: usize) -> usize {
-    let (Some(a), Some(b)) = (literal_at(u), literal_at(w)) else {
-        return 0;
-    };
-    match net.add(a, b) {
-        Ok(true) => 1,
-        _ => 0,
-    }
+// The networks that are built; main.rt says which words name them.
+#[derive(Clone, Copy)]
+pub enum Kind {
+    Sparse,
+    Timetable,
+    Dense,
 }
 
-// Eight random pairs for each variable.
-fn sparse(net: &mut Open, n: usize, random: &mut Random) -> usize {
-    let mut added = 0usize;
-    for _ in 0..n.saturating_mul(8) {
-        let u = random.below(n.saturating_mul(2));
-        let w = random.below(n.saturating_mul(2));
-        added = added.saturating_add(join(net, u, w));
+// Any other word than these two names the dense ones.
+impl<'a> From<&'a str> for Kind {
+    fn from(word: &'a str) -> Kind {
+        match word {
+            "sparse" => Kind::Sparse,
+            "timetable" => Kind::Timetable,
+            _ => Kind::Dense,
+        }
     }
-    added
 }
 
 #[derive(Clone, Copy)]
@@ -55,15 +52,17 @@ struct Lecture {
     second: usize,
 }
 
-const SLOTS: usize = 32;
-
-fn clash(a: &Lecture, b: &Lecture) -> bool {
-    a.room == b.room
-        || a.first == b.first
-        || a.first == b.second
-        || a.second == b.first
-        || a.second == b.second
+impl Lecture {
+    fn clashes(&self, other: &Lecture) -> bool {
+        self.room == other.room
+            || self.first == other.first
+            || self.first == other.second
+            || self.second == other.first
+            || self.second == other.second
+    }
 }
+
+const SLOTS: usize = 32;
 
 // The index of the literal that says that a lecture takes a slot.
 fn choice(lecture: usize, slot: usize) -> usize {
@@ -73,79 +72,91 @@ fn choice(lecture: usize, slot: usize) -> usize {
         .saturating_mul(2)
 }
 
-fn one_slot(net: &mut Open, lecture: usize) -> usize {
-    let mut added = 0usize;
-    for s in 0..SLOTS {
-        for t in 0..s {
-            added = added.saturating_add(join(net, choice(lecture, s), choice(lecture, t)));
+// A network that is being filled, and how many conflicts it has.
+#[derive(Drop)]
+pub struct Network<'a> {
+    pub net: Open<'a>,
+    pub conflicts: usize,
+    pub random: Random,
+}
+
+impl<'a> Network<'a> {
+    // Adds the conflict of two indices, and counts it if it is new.
+    fn join(&mut self, u: usize, w: usize) {
+        if let (Some(a), Some(b)) = (literal_at(u), literal_at(w))
+            && let Ok(true) = self.net.add(a, b)
+        {
+            self.conflicts = self.conflicts.saturating_add(1);
         }
     }
-    added
-}
 
-fn other_slots(net: &mut Open, l: usize, k: usize) -> usize {
-    let mut added = 0usize;
-    for s in 0..SLOTS {
-        added = added.saturating_add(join(net, choice(l, s), choice(k, s)));
+    // Eight random pairs for each variable.
+    fn add_sparse(&mut self, n: usize) {
+        let indices = n.saturating_mul(2);
+        for _ in 0..n.saturating_mul(8) {
+            let u = self.random.below(indices);
+            let w = self.random.below(indices);
+            self.join(u, w);
+        }
     }
-    added
-}
 
-// Lectures with 32 slots each; a lecture takes one slot, and no two lectures of a room or a group take the same.
-fn timetable(
-    net: &mut Open,
-    heap: Global,
-    n: usize,
-    random: &mut Random,
-) -> Result<usize, AllocError> {
-    let count = n / SLOTS;
-    let mut lectures: Vec<Lecture> = Vec::new(heap);
-    for _ in 0..count {
-        let room = random.below(count / 4 + 1);
-        let first = random.below(count / 3 + 1);
-        let second = random.below(count / 3 + 1);
-        lectures.push(Lecture {
-            room,
-            first,
-            second,
-        })?;
-    }
-    let mut added = 0usize;
-    for (l, lecture) in lectures.iter().enumerate() {
-        added = added.saturating_add(one_slot(net, l));
-        for (k, other) in lectures.iter().enumerate().take(l) {
-            if clash(lecture, other) {
-                added = added.saturating_add(other_slots(net, l, k));
+    fn add_one_slot(&mut self, lecture: usize) {
+        for s in 0..SLOTS {
+            for t in 0..s {
+                self.join(choice(lecture, s), choice(lecture, t));
             }
         }
     }
-    Ok(added)
-}
 
-// Every pair of different variables, of the literals that say that they are true, with probability one half.
-fn dense(net: &mut Open, n: usize, random: &mut Random) -> usize {
-    let mut added = 0usize;
-    for u in 0..n {
-        for w in 0..u {
-            if random.next() >> 63 == 1 {
-                added = added.saturating_add(join(net, u.saturating_mul(2), w.saturating_mul(2)));
+    fn add_other_slots(&mut self, l: usize, k: usize) {
+        for s in 0..SLOTS {
+            self.join(choice(l, s), choice(k, s));
+        }
+    }
+
+    // Lectures with 32 slots each; a lecture takes one slot, and no two lectures of a room or a group take the same.
+    fn add_timetable(&mut self, heap: Global, n: usize) -> Result<(), AllocError> {
+        let count = n / SLOTS;
+        let mut lectures: Vec<Lecture> = Vec::new(heap);
+        for _ in 0..count {
+            let room = self.random.below(count / 4 + 1);
+            let first = self.random.below(count / 3 + 1);
+            let second = self.random.below(count / 3 + 1);
+            lectures.push(Lecture {
+                room,
+                first,
+                second,
+            })?;
+        }
+        for (l, lecture) in lectures.iter().enumerate() {
+            self.add_one_slot(l);
+            for (k, other) in lectures.iter().enumerate().take(l) {
+                if lecture.clashes(other) {
+                    self.add_other_slots(l, k);
+                }
+            }
+        }
+        Ok(())
+    }
+
+    // Every pair of different variables, of the literals that say that they are true, with probability one half.
+    fn add_dense(&mut self, n: usize) {
+        for u in 0..n {
+            for w in 0..u {
+                if self.random.next() >> 63 == 1 {
+                    self.join(u.saturating_mul(2), w.saturating_mul(2));
+                }
             }
         }
     }
-    added
-}
 
-// Fills a network of one of the kinds, and tells how many conflicts it has.
-pub fn fill(
-    net: &mut Open,
-    heap: Global,
-    kind: &str,
-    n: usize,
-    random: &mut Random,
-) -> Result<usize, AllocError> {
-    match kind {
-        "sparse" => Ok(sparse(net, n, random)),
-        "timetable" => timetable(net, heap, n, random),
-        _ => Ok(dense(net, n, random)),
+    // Fills the network of n variables with one of the kinds.
+    pub fn fill(&mut self, heap: Global, kind: Kind, n: usize) -> Result<(), AllocError> {
+        match kind {
+            Kind::Sparse => self.add_sparse(n),
+            Kind::Timetable => self.add_timetable(heap, n)?,
+            Kind::Dense => self.add_dense(n),
+        }
+        Ok(())
     }
 }

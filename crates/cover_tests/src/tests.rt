@@ -1,4 +1,4 @@
-use cover::{Covered, Part, cover, part_at};
+use cover::{Covered, Part, Parts, cover, part_at};
 use fault::{Fault, Layer, Refusal};
 use network::Open;
 use std::test::Fail;
@@ -18,11 +18,7 @@ fn counts(
 }
 
 fn refused(refusal: Refusal, layer: Layer) -> Result<Covered, Fault> {
-    Err(Fault {
-        refusal,
-        layer,
-        place: 0,
-    })
+    Err(Fault::new(layer, refusal))
 }
 
 // Adds every conflict between the literals from `from` up to, and without, `to`.
@@ -169,6 +165,18 @@ fn the_lowest_at_ties(rt: HostRuntime) {
         counts(0, 2, 0, 14)
     );
     assert!(rt; list == [-2, 3, 1, 2, 3, 4, 5, -2, 3, 6, 7, 8, 9, 10]);
+    let mut parts = Parts::new(&list);
+    for at in [2, 9] {
+        assert_eq!(rt;
+            parts.next(),
+            Some(Part::Biclique {
+                at,
+                left: 2,
+                right: 3,
+            })
+        );
+    }
+    assert_eq!(rt; parts.next(), None);
 }
 
 #[test]

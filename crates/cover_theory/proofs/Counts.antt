@@ -1,5 +1,4 @@
-use Rattle.std.proofs.Common.{◌≡◌, ℕ, zero, suc, ◌+◌, ◌-◌, ◌*◌, ◌/◌, ◌%◌, ◌^◌, ◌<◌, ◌≤◌, Bool, true, false, cond, ◌&&◌, eqb, ltb, List, get_or, sym, refl, ap, ◌∙◌, ap₂, add-one, one-add, arith}
-use lib.Bits.{bit_and}
+use Rattle.std.proofs.Common.{◌≡◌, ℕ, zero, suc, ◌+◌, ◌-◌, ◌*◌, ◌/◌, ◌%◌, ◌^◌, ◌<◌, ◌≤◌, false, cond, ◌&&◌, eqb, ltb, List, get_or, sym, refl, ap, ◌∙◌, ap₂, add-one, one-add, arith}
 use lib.Count.{ones, ones_step}
 use Rattle.std.proofs.lemmas.Bool.{lt-ltb, le-ltb, and_right, cond-true, cond-false}
 use Rattle.std.proofs.lemmas.Bool.Decides.{nat_tests}
@@ -7,7 +6,7 @@ use Rattle.std.proofs.lemmas.Nat.{pow-add}
 use Rattle.cover_theory.specs.Rule.{Side, count, shared, first_best}
 use Rattle.network_theory.specs.Layout.{bit}
 use Rattle.cover_theory.specs.Rows.{marked, stands_at, conflicts, Fit, held, Neat}
-use Rattle.cover_theory.proofs.Digits.{and_bit, half}
+use Rattle.cover_theory.proofs.Digits.{half}
 use Rattle.cover_theory.proofs.Grows.{agree}
 
 pub count_as : (p q : Side) (k c d : ℕ) → ((t : ℕ) → t < k → p (c + t) ≡ q (d + t)) → count p k c ≡ count q k d
@@ -62,17 +61,6 @@ place i t h = (omega arith, omega arith)
 pub mask_word : (mask : List ℕ) (i t : ℕ) → t < 64 → marked mask (64 * i + t) ≡ bit (get_or mask i 0) t
 mask_word mask i t h = ap₂ (λ y z. bit (get_or mask y 0) z) (place i t h).0 (place i t h).1
 
-pub row_word : (ws mask : List ℕ) (R u i t : ℕ) → t < 64 → (marked mask (64 * i + t) && stands_at ws R u (64 * i + t)) ≡ bit (bit_and (get_or ws (u * R + i) 0) (get_or mask i 0)) t
-row_word ws mask R u i t h =
-    ap₂ (λ y z. bit (get_or mask y 0) z && bit (get_or ws (u * R + y) 0) z) (place i t h).0 (place i t h).1
-    ∙ swap (bit (get_or mask i 0) t) (bit (get_or ws (u * R + i) 0) t) ∙ sym (and_bit (get_or ws (u * R + i) 0) (get_or mask i 0) t)
-  where
-    swap : (a b : Bool) → (a && b) ≡ (b && a)
-    swap true true = refl
-    swap true false = refl
-    swap false true = refl
-    swap false false = refl
-
 pub size_is : (N R : ℕ) (mask : List ℕ) → N ≤ 64 * R → Neat N R mask → count (marked mask) (64 * R) 0 ≡ count (held N mask) N 0
 size_is N R mask small neat =
     count_cut (marked mask) N (64 * R) small neat ∙ count_same (marked mask) (held N mask) N (λ j h. ap (λ b. b && marked mask j) (sym (lt-ltb j N h)))
@@ -98,12 +86,6 @@ best_takes sc N c b h l = sym (best_step sc N c b h ∙ ap (λ x. first_best sc 
 
 pub best_keeps : (sc : ℕ → ℕ) (N c b : ℕ) → c < N → sc c ≤ sc b → first_best sc (N - (c + 1)) (c + 1) b ≡ first_best sc (N - c) c b
 best_keeps sc N c b h l = sym (best_step sc N c b h ∙ ap (λ x. first_best sc (N - (c + 1)) (c + 1) x) (cond-false (ltb (sc b) (sc c)) c b (le-ltb (sc b) (sc c) l)))
-
-pub best_all : (sc : ℕ → ℕ) (N c b : ℕ) → N ≤ c → b ≡ first_best sc (N - c) c b
-best_all sc N c b h = ap (λ x. first_best sc x c b) (let e : 0 ≡ N - c = omega arith in e)
-
-pub best_none : (sc : ℕ → ℕ) (N : ℕ) → first_best sc (N - 0) 0 0 ≡ first_best sc N 0 0
-best_none sc N = ap (λ x. first_best sc x 0 0) (let e : N - 0 ≡ N = omega arith in e)
 
 module _ (sc : ℕ → ℕ) (N c b top s best' top' target : ℕ) (h : c < N) (p : top ≡ sc b) (q : s ≡ sc c) (inv : first_best sc (N - c) c b ≡ target) where
   pub picks_new : top < s → best' ≡ c → top' ≡ s → (best' < N) × (top' ≡ sc best') × (first_best sc (N - (c + 1)) (c + 1) best' ≡ target)

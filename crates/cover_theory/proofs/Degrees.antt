@@ -87,11 +87,11 @@ same_degree N r s u a b =
     kept true p q = refl
     kept false p q = refl
 
-pub recounted : (N R : ℕ) (r : Rel) (vs a b ds ds' : List ℕ) → Degrees N r ds → conflicts N R vs ≡ without_sides r (held N a, held N b)
-    → ((u : ℕ) → u < N → get_or ds' u 0 ≡ cond (marked a u || marked b u) (count (shared (conflicts N R vs) (everyone N) u) N 0) (get_or ds u 0))
-    → Degrees N (conflicts N R vs) ds'
-recounted N R r vs a b ds ds' deg left new u h =
-    new u h ∙ cond_both (marked a u || marked b u) (count (shared (conflicts N R vs) (everyone N) u) N 0) (get_or ds u 0) (λ z. z ≡ count (shared (conflicts N R vs) (everyone N) u) N 0)
+pub recounted : (N : ℕ) (r r' : Rel) (a b ds ds' : List ℕ) → Degrees N r ds → r' ≡ without_sides r (held N a, held N b)
+    → ((u : ℕ) → u < N → get_or ds' u 0 ≡ cond (marked a u || marked b u) (count (shared r' (everyone N) u) N 0) (get_or ds u 0))
+    → Degrees N r' ds'
+recounted N r r' a b ds ds' deg left new u h =
+    new u h ∙ cond_both (marked a u || marked b u) (count (shared r' (everyone N) u) N 0) (get_or ds u 0) (λ z. z ≡ count (shared r' (everyone N) u) N 0)
     (λ e. refl)
     (λ e. let p = or_parts (marked a u) (marked b u) e in
     deg u h ∙ same_degree N r (held N a, held N b) u (and_right (ltb u N) _ p.0) (and_right (ltb u N) _ p.1)

@@ -1,59 +1,36 @@
-use Rattle.std.proofs.Common.{◌≡◌, ℕ, suc, ◌+◌, ◌-◌, ◌<◌, ◌≤◌, true, false, cond, List, [], ◌∷◌, ◌++◌, map, length, take, drop, set, ℤ, sym, refl, ap, ◌∙◌, subst, ap₂, append_assoc, append-nil, add-one, arith}
-use Rattle.std.proofs.lemmas.List.{take_more_set, drop-set-lt, take-append-drop, drop-drop}
+-- The members of a side, one after another.
+use Rattle.std.proofs.Common.{◌≡◌, ℕ, zero, suc, ◌+◌, ◌-◌, ◌<◌, ◌≤◌, Bool, true, false, cond, List, [], ◌∷◌, ◌++◌, map, length, refl, ap, ◌∙◌, add-one, arith}
+use Rattle.std.proofs.lemmas.List.{length-append, length-map, map-append, append-nil}
 use Rattle.std.proofs.lemmas.Bool.{cond-true, cond-false}
 use Rattle.cover_theory.specs.Rule.{Side, those, count}
 use Rattle.logic.specs.Literal.{literal}
+use Rattle.cover_theory.proofs.Counts.{count_split}
+use Rattle.cover_theory.proofs.Members.{length_those}
 
-count_step : (p : Side) (N j : ℕ) → j < N → count p (N - j) j ≡ cond (p j) 1 0 + count p (N - (j + 1)) (j + 1)
-count_step p N j h =
-    ap (λ x. count p x j) (let e : N - j ≡ suc (N - (j + 1)) = omega arith in e) ∙ ap (λ x. cond (p j) 1 0 + count p (N - (j + 1)) x) (sym (add-one j))
+joined : (b : Bool) (c : ℕ) (xs ys : List ℕ) → cond b (c ∷ (xs ++ ys)) (xs ++ ys) ≡ cond b (c ∷ xs) xs ++ ys
+joined true c xs ys = refl
+joined false c xs ys = refl
 
-those_step : (p : Side) (N j : ℕ) → j < N → those p (N - j) j ≡ cond (p j) (j ∷ those p (N - (j + 1)) (j + 1)) (those p (N - (j + 1)) (j + 1))
-those_step p N j h =
-    ap (λ x. those p x j) (let e : N - j ≡ suc (N - (j + 1)) = omega arith in e)
-    ∙ ap (λ x. cond (p j) (j ∷ those p (N - (j + 1)) x) (those p (N - (j + 1)) x)) (sym (add-one j))
+those_more : (p : Side) (k c : ℕ) → those p (suc k) c ≡ those p k c ++ cond (p (c + k)) ((c + k) ∷ []) []
+those_more p zero c = ap (λ x. cond (p x) (x ∷ []) []) (let e : c ≡ c + 0 = omega arith in e)
+those_more p (suc k) c =
+    ap (λ l. cond (p c) (c ∷ l) l) (those_more p k (suc c) ∙ ap (λ x. those p k (suc c) ++ cond (p x) (x ∷ []) []) (let e : suc c + k ≡ c + suc k = omega arith in e))
+    ∙ joined (p c) c (those p k (suc c)) (cond (p (c + suc k)) ((c + suc k) ∷ []) [])
 
--- the list ys holds what xs holds up to `at`, then the literals of p below j, up to `to`
-abbrev pub Emitting : ℕ → Side → List ℤ → ℕ → ℕ → ℕ → ℕ → List ℤ → Type 0
-Emitting N p xs at k j to ys =
-    (to + count p (N - j) j ≡ at + k)
-    × (drop to ys ≡ drop to xs)
-    × (take to ys ++ map literal (those p (N - j) j) ≡ take at xs ++ map literal (those p N 0))
+module _ (p : Side) (u : ℕ) where
+  next : those p (u + 1) 0 ≡ those p u 0 ++ cond (p u) (u ∷ []) []
+  next =
+      ap (λ k. those p k 0) (add-one u) ∙ those_more p u 0
+      ∙ ap (λ x. those p u 0 ++ cond (p x) (x ∷ []) []) (let e : 0 + u ≡ u = omega arith in e)
 
-module _ (N : ℕ) (p : Side) (xs : List ℤ) (at k : ℕ) where
-  pub begins : k ≡ count p N 0 → Emitting N p xs at k 0 at xs
-  begins e =
-      let z : N - 0 ≡ N = omega arith in
-      (ap (λ x. at + count p x 0) z ∙ ap (λ x. at + x) (sym e), refl, ap (λ x. take at xs ++ map literal (those p x 0)) z)
+  pub emit_more : p u ≡ true → map literal (those p (u + 1) 0) ≡ map literal (those p u 0) ++ literal u ∷ []
+  emit_more h = ap (map literal) (next ∙ ap (λ l. those p u 0 ++ l) (cond-true (p u) _ _ h)) ∙ map-append literal (those p u 0) (u ∷ [])
 
-  module _ (j to : ℕ) (ys : List ℤ) (h : j < N) (inv : Emitting N p xs at k j to ys) where
-    pub room : p j ≡ true → at + k ≤ length ys → to < length ys
-    room e len = omega (arith, inv.0, count_step p N j h ∙ ap (λ b. cond b 1 0 + count p (N - (j + 1)) (j + 1)) e)
+  pub emit_none : p u ≡ false → map literal (those p (u + 1) 0) ≡ map literal (those p u 0)
+  emit_none h = ap (map literal) (next ∙ ap (λ l. those p u 0 ++ l) (cond-false (p u) _ _ h) ∙ append-nil (those p u 0))
 
-    pub takes : (to' : ℕ) (ys' : List ℤ) (z : ℤ) → p j ≡ true → to < length ys → z ≡ literal j → to' ≡ to + 1 → ys' ≡ set ys to z → Emitting N p xs at k (j + 1) to' ys'
-    takes to' ys' z e len zl te ye =
-        let c = count_step p N j h ∙ ap (λ b. cond b 1 0 + count p (N - (j + 1)) (j + 1)) e in
-        let t = those_step p N j h ∙ cond-true (p j) _ _ e in
-        subst (λ n. Emitting N p xs at k (j + 1) n ys') (sym te) (subst (λ l. Emitting N p xs at k (j + 1) (to + 1) l) (sym ye) (
-          omega (arith, inv.0, c),
-          drop-set-lt (to + 1) ys to z (omega arith) ∙ sym (drop-drop 1 to ys) ∙ ap (drop 1) inv.1 ∙ drop-drop 1 to xs,
-          ap (λ l. l ++ map literal (those p (N - (j + 1)) (j + 1))) (take_more_set ys to z len)
-              ∙ append_assoc (take to ys) (z ∷ []) (map literal (those p (N - (j + 1)) (j + 1)))
-              ∙ ap (λ y. take to ys ++ (y ∷ map literal (those p (N - (j + 1)) (j + 1)))) zl
-              ∙ ap (λ l. take to ys ++ map literal l) (sym t) ∙ inv.2,
-        ))
-
-    pub leaves : (to' : ℕ) (ys' : List ℤ) → p j ≡ false → to' ≡ to → ys' ≡ ys → Emitting N p xs at k (j + 1) to' ys'
-    leaves to' ys' e te ye =
-        let c = count_step p N j h ∙ ap (λ b. cond b 1 0 + count p (N - (j + 1)) (j + 1)) e in
-        let t = those_step p N j h ∙ cond-false (p j) _ _ e in
-        subst (λ n. Emitting N p xs at k (j + 1) n ys') (sym te) (subst (λ l. Emitting N p xs at k (j + 1) to l) (sym ye)
-        (omega (arith, inv.0, c), inv.1, ap (λ l. take to ys ++ map literal l) (sym t) ∙ inv.2))
-
-  pub ends : (j to : ℕ) (ys : List ℤ) → N ≤ j → Emitting N p xs at k j to ys → (to ≡ at + k) × (ys ≡ take at xs ++ (map literal (those p N 0) ++ drop (at + k) xs))
-  ends j to ys h inv =
-      let z : N - j ≡ 0 = omega arith in
-      let e : to ≡ at + k = omega (arith, inv.0, ap (λ x. count p x j) z) in
-      let f : take to ys ≡ take at xs ++ map literal (those p N 0) =
-      sym (append-nil (take to ys)) ∙ ap (λ x. take to ys ++ map literal (those p x j)) (sym z) ∙ inv.2 in
-      (e, sym (take-append-drop to ys) ∙ ap₂ (λ a b. a ++ b) f (inv.1 ∙ ap (λ n. drop n xs) e) ∙ append_assoc (take at xs) (map literal (those p N 0)) (drop (at + k) xs))
+  pub emit_room : (N : ℕ) → u < N → p u ≡ true → length (map literal (those p u 0)) + 1 ≤ count p N 0
+  emit_room N h e =
+      let all : count p N 0 ≡ count p (u + 1) 0 + count p (N - (u + 1)) (0 + (u + 1)) = ap (λ k. count p k 0) (let q : N ≡ u + 1 + (N - (u + 1)) = omega arith in q) ∙ count_split p (u + 1) (N - (u + 1)) 0 in
+      let more : length (map literal (those p (u + 1) 0)) ≡ length (map literal (those p u 0)) + 1 = ap length (emit_more e) ∙ length-append (map literal (those p u 0)) (literal u ∷ []) in
+      omega (arith, all, more, length-map (those p (u + 1) 0) literal, length_those p (u + 1) 0)

@@ -1,12 +1,12 @@
 -- The cover as it lies in the list and in the words.
 use Rattle.std.proofs.Common.{◌≡◌, ℕ, zero, suc, ◌+◌, ◌-◌, ◌*◌, ◌/◌, ◌%◌, ◌^◌, ◌<◌, ◌≤◌, Bool, true, false, cond, ◌&&◌, eqb, ltb, leb, List, [], ◌∷◌, ◌++◌, map, length, get_or, take, drop, replicate, ℤ, pos, sym, refl, ap, ◌∙◌, ap₂, ⊎_elim, append_assoc, mul_comm, mul-zero, one-add, arith}
-use Rattle.std.proofs.lemmas.List.{append-nil, length-append, length-map, length-take-le, length-drop, length-replicate, get_or_default, get_or_append_left, get_or-append_right, get_or-drop, get_or-take, get_or-replicate, same_lists}
+use Rattle.std.proofs.lemmas.List.{append-nil, length-append, length-map, length-take-le, length-drop, get_or_default, get_or_append_left, get_or-append_right, get_or-drop, same_lists}
 use Rattle.std.proofs.lemmas.List.FromFn.{length-map-range_with_len, get_or-map-range_with_len}
 use Rattle.std.proofs.lemmas.Bool.{cases_lt, le-ltb}
 use Rattle.std.proofs.lemmas.Bool.Decides.{nat_tests}
 use Rattle.std.proofs.lemmas.Nat.{pow-add, div_below, mod_below, div-add-mod', mul-add-lt}
 use Rattle.logic.specs.Literal.{literal}
-use Rattle.network_theory.specs.Layout.{bit, row_words, words_needed, cleared}
+use Rattle.network_theory.specs.Layout.{bit, row_words, words_needed}
 use Rattle.cover_theory.specs.Parts.{Part, clique, biclique}
 use Rattle.cover_theory.specs.Rule.{Rel, without, grown, taken, visit, visits, sweep, those, without_sides, grown_sides, gains, bicliques, ruled, also, covering, of_literals}
 use Rattle.cover_theory.specs.Lies.{minus, numbers_of, numbers, word, words_holding}
@@ -119,32 +119,7 @@ module _ (n : ℕ) (rel : Rel) (ws vs : List ℕ) (room : words_needed n ≤ len
       ∙ ap (λ z. get_or ws z d) (let q : words_needed n + (k - words_needed n) ≡ k = omega arith in q)))
       (cases_lt k (words_needed n)))
 
--- cleared words
-pub laid_zero : (n : ℕ) (ws vs : List ℕ) → words_needed n ≤ length ws → length vs ≡ length ws
-    → ((k : ℕ) → k < words_needed n → get_or vs k 0 ≡ 0) → ((i : ℕ) → words_needed n ≤ i → get_or vs i 0 ≡ get_or ws i 0) → vs ≡ cleared n ws
-laid_zero n ws vs room same zeros rest =
-    let len : length (replicate {A = ℕ} (words_needed n) 0) ≡ words_needed n = length-replicate {A = ℕ} (words_needed n) 0 in
-    same_lists vs (replicate {A = ℕ} (words_needed n) 0 ++ drop (words_needed n) ws) (omega (arith, length-append (replicate {A = ℕ} (words_needed n) 0) (drop (words_needed n) ws), length-drop (words_needed n) ws))
-    (λ k d h. get_or_default vs k d 0 h ∙ ⊎_elim
-    (λ l. zeros k l ∙ sym (get_or_append_left (replicate {A = ℕ} (words_needed n) 0) (drop (words_needed n) ws) d k (omega arith) ∙ get_or-replicate (words_needed n) k 0 d l))
-    (λ l. rest k l ∙ get_or_default ws k 0 d (omega arith)
-    ∙ sym (get_or-append_right (replicate {A = ℕ} (words_needed n) 0) (drop (words_needed n) ws) (words_needed n) k d len l ∙ get_or-drop (words_needed n) ws (k - words_needed n) d
-    ∙ ap (λ z. get_or ws z d) (let q : words_needed n + (k - words_needed n) ≡ k = omega arith in q)))
-    (cases_lt k (words_needed n)))
-
 -- ---- the list, zero from `to` on
-
-pub laid_list : (xs ys : List ℤ) (to : ℕ) → to ≤ length xs → length ys ≡ length xs
-    → ((k : ℕ) → k < to → get_or ys k (pos 0) ≡ get_or xs k (pos 0)) → ((k : ℕ) → to ≤ k → k < length xs → get_or ys k (pos 0) ≡ pos 0)
-    → ys ≡ take to xs ++ replicate (length xs - to) (pos 0)
-laid_list xs ys to room same front zeros =
-    let len = length-take-le to xs room in
-    let tail = length-replicate (length xs - to) (pos 0) in
-    same_lists ys (take to xs ++ replicate (length xs - to) (pos 0)) (omega (arith, length-append (take to xs) (replicate (length xs - to) (pos 0))))
-    (λ k d h. get_or_default ys k d (pos 0) h ∙ ⊎_elim
-    (λ l. front k l ∙ get_or_default xs k (pos 0) d (omega arith) ∙ sym (get_or_append_left (take to xs) (replicate (length xs - to) (pos 0)) d k (omega arith) ∙ get_or-take to xs k d l))
-    (λ l. zeros k l (omega arith) ∙ sym (get_or-append_right (take to xs) (replicate (length xs - to) (pos 0)) to k d len l ∙ get_or-replicate (length xs - to) (k - to) (pos 0) d (omega arith)))
-    (cases_lt k to))
 
 -- a list whose first numbers are those of the parts, with zeros after them
 pub list_holds : (xs ns : List ℤ) (to : ℕ) → to ≤ length xs → take to xs ≡ ns → take to xs ++ replicate (length xs - to) (pos 0) ≡ ns ++ replicate (length xs - length ns) (pos 0)

@@ -3,7 +3,6 @@ pub mod Grows
 pub mod Starts
 pub mod Steps
 pub mod Removes
-pub mod Writes
 pub mod Emits
 pub mod Visits
 pub mod Counts

@@ -1,17 +1,16 @@
 -- The conflicts of a network as the rule is given them, and the laws of its cover.
-use Rattle.std.proofs.Common.{◌≡◌, ℕ, ◌+◌, ◌*◌, ◌/◌, ◌%◌, ◌<◌, ◌≤◌, Bool, true, false, ltb, ◌↔◌, List, [], length, get_or, take, ℤ, Some, None, Option, sym, refl, ap, ◌∙◌, subst, ap₂, ⊎_elim, mul_comm, arith, MatchOption}
+use Rattle.std.proofs.Common.{◌≡◌, ℕ, ◌+◌, ◌*◌, ◌/◌, ◌%◌, ◌<◌, ◌≤◌, Bool, true, false, ltb, ◌↔◌, List, length, get_or, ℤ, sym, refl, ap, ◌∙◌, ap₂, ⊎_elim, mul_comm, arith}
 use Rattle.std.proofs.lemmas.Nat.{mul-add-lt}
 use Rattle.std.proofs.lemmas.Bool.{cases_Bool, and_parts, and_from, ltb-true, lt-ltb}
 use Rattle.logic.specs.Literal.{Literal, index, literal}
 use Rattle.logic.proofs.Literals.{index_below, index_literal, variable_literal, literal_within}
 use Rattle.network_theory.specs.Layout.{Net, Conflict, Mutual, Apart, Trimmed, row_words, words_needed, stands, bit}
 use Rattle.cover_theory.specs.Parts.{Partition}
-use Rattle.cover_theory.specs.Rule.{cover_of, bicliques, sweep, ruled, covering}
+use Rattle.cover_theory.specs.Rule.{cover_of, sweep, ruled, covering}
 use Rattle.cover_theory.specs.Lies.{conflicts_in}
-use Rattle.cover_theory.specs.Rows.{stands_at, conflicts, Fit, Went, Flat, told}
+use Rattle.cover_theory.specs.Rows.{stands_at, Fit, Flat, told}
 use Rattle.cover_theory.proofs.Splits.{Given, covering_splits}
 use Rattle.cover_theory.proofs.Partitions.{partition}
-use Rattle.cover_theory.proofs.Visits.{went_on}
 use Rattle.cover_theory.proofs.Pairs.{bicliques_longer}
 
 abbrev net_in : ℕ → List ℕ → Net
@@ -93,13 +92,3 @@ net_alone n ws vs h = ap (cover_of n) (λ i u w. same u w i)
 
 pub phases_short : (N : ℕ) (s : Flat) (k : ℕ) → k < length (sweep told N s N 0).1 → k < length (ruled told N s).1
 phases_short N s k h = omega (arith, bicliques_longer N (N * N) (sweep told N s N 0))
-
-pub phases : (N R : ℕ) (ws vs us : List ℕ) (xs ys zs : List ℤ) (used : ℕ) (r : Option ℕ) → length ys ≡ length xs
-    → Went N R ws vs xs ys 0 used (sweep told N (conflicts N R ws, []) N 0)
-    → MatchOption r (length ys < length (bicliques told N (N * N) (conflicts N R vs, take used ys)).1) (λ to. Went N R vs us ys zs used to (bicliques told N (N * N) (conflicts N R vs, take used ys)))
-    → MatchOption r (length xs < length (ruled told N (conflicts N R ws, [])).1) (λ to. Went N R ws us xs zs 0 to (ruled told N (conflicts N R ws, [])))
-phases N R ws vs us xs ys zs used None len w h =
-    omega (arith, ap (λ (s : Flat). length (bicliques told N (N * N) s).1) w.state)
-phases N R ws vs us xs ys zs used (Some to) len w h =
-    subst (Went N R ws us xs zs 0 to) (ap (λ (s : Flat). bicliques told N (N * N) s) w.state)
-    (went_on N R ws vs us xs ys zs 0 used to (sweep told N (conflicts N R ws, []) N 0) (bicliques told N (N * N) (conflicts N R vs, take used ys)) len w h)

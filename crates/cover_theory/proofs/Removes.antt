@@ -1,11 +1,11 @@
-use Rattle.std.proofs.Common.{◌≡◌, ℕ, ◌+◌, ◌*◌, ◌/◌, ◌%◌, ◌<◌, ◌≤◌, Bool, true, false, not, ◌&&◌, ◌||◌, eqb, ltb, ◌≢◌, List, [], ◌∷◌, ◌++◌, length, get_or, take, set, sym, refl, ap, ◌∙◌, ap₂, ⊎_elim, mul_comm, arith, get_or-set_other, get_or-set_same}
-use Rattle.std.proofs.lemmas.Bool.{cases_eq, cases_lt, cases_order, eq-eqb, ne_eqb, le-ltb}
+use Rattle.std.proofs.Common.{◌≡◌, ℕ, ◌+◌, ◌*◌, ◌/◌, ◌%◌, ◌<◌, ◌≤◌, Bool, true, false, not, ◌&&◌, ◌||◌, eqb, ◌≢◌, List, [], ◌∷◌, ◌++◌, length, get_or, take, set, sym, refl, ap, ◌∙◌, ap₂, ⊎_elim, mul_comm, arith, get_or-set_other, get_or-set_same}
+use Rattle.std.proofs.lemmas.Bool.{cases_eq, cases_order, eq-eqb, ne_eqb}
 use Rattle.std.proofs.lemmas.Bool.Decides.{nat_tests}
 use Rattle.std.proofs.lemmas.Nat.{mul-le}
 use Rattle.std.proofs.lemmas.List.{take_more}
-use Rattle.cover_theory.specs.Rule.{among, without}
+use Rattle.cover_theory.specs.Rule.{among}
 use Rattle.network_theory.specs.Layout.{bit}
-use Rattle.cover_theory.specs.Rows.{marked, stands_at, conflicts}
+use Rattle.cover_theory.specs.Rows.{marked, stands_at}
 
 or_none : (b : Bool) → (b || false) ≡ b
 or_none true = refl
@@ -35,11 +35,6 @@ marked_set mask c j y h y-is =
     ap (λ z. bit z (j % 64)) (get_or-set_other mask (c / 64) (j / 64) y 0 ne')
     ∙ sym (ap (λ b. marked mask j || b) (ne_eqb c j (λ e. ne (ap (λ z. z / 64) (sym e)))) ∙ or_none (marked mask j)))
     (cases_eq (j / 64) (c / 64))
-
-pub painted : (mask xs : List ℕ) (i j c y : ℕ) → i < length xs → c ≡ get_or xs i 0 → c / 64 < length mask → ((k : ℕ) → bit y k ≡ (bit (get_or mask (c / 64) 0) k || eqb (c % 64) k))
-    → marked mask j ≡ among (take i xs) j → marked (set mask (c / 64) y) j ≡ among (take (i + 1) xs) j
-painted mask xs i j c y h e room y-is inv =
-    marked_set mask c j y room y-is ∙ ap₂ (λ a b. a || eqb b j) inv e ∙ sym (ap (λ z. among z j) (take_more xs i 0 h) ∙ among_push (take i xs) (get_or xs i 0) j)
 
 -- ---- erase
 
@@ -85,30 +80,3 @@ removed_more s₀ s₁ s₂ m xs i u c h e p q =
 none : (s m : Bool) → s ≡ (s && not (false && m))
 none true m = refl
 none false m = refl
-
--- the relations as functions
-and_out : (a b s t : Bool) → (a && (b && (s && t))) ≡ ((a && (b && s)) && t)
-and_out true true s t = refl
-and_out true false s t = refl
-and_out false b s t = refl
-
-pub left : (ws vs ms : List ℕ) (N R : ℕ) → N ≤ 64 * R
-    → ((u j : ℕ) → u < N → j < 64 * R → stands_at vs R u j ≡ (stands_at ws R u j && not (among ms u && among ms j)))
-    → conflicts N R vs ≡ without (conflicts N R ws) ms
-left ws vs ms N R small gone = λ i u j. at u j i
-  where
-    at : (u j : ℕ) → conflicts N R vs u j ≡ without (conflicts N R ws) ms u j
-    at u j =
-        ⊎_elim (λ h. ⊎_elim (λ g.
-        ap (λ b. ltb u N && (ltb j N && b)) (gone u j h (omega arith)) ∙ and_out (ltb u N) (ltb j N) (stands_at ws R u j) (not (among ms u && among ms j)))
-        (λ g. far u j (le-ltb j N g)) (cases_lt j N)) (λ h. near u j (le-ltb u N h)) (cases_lt u N)
-      where
-        near : (u j : ℕ) → ltb u N ≡ false → conflicts N R vs u j ≡ without (conflicts N R ws) ms u j
-        near u j e = ap (λ b. b && (ltb j N && stands_at vs R u j)) e ∙ sym (ap (λ b. (b && (ltb j N && stands_at ws R u j)) && not (among ms u && among ms j)) e)
-
-        pick : (a t : Bool) → (a && false) ≡ ((a && false) && t)
-        pick true t = refl
-        pick false t = refl
-
-        far : (u j : ℕ) → ltb j N ≡ false → conflicts N R vs u j ≡ without (conflicts N R ws) ms u j
-        far u j e = ap (λ b. ltb u N && (b && stands_at vs R u j)) e ∙ pick (ltb u N) (not (among ms u && among ms j)) ∙ sym (ap (λ b. (ltb u N && (b && stands_at ws R u j)) && not (among ms u && among ms j)) e)

@@ -1,50 +1,16 @@
-use Rattle.std.proofs.Common.{◌≡◌, ℕ, suc, ◌+◌, ◌-◌, ◌*◌, ◌/◌, ◌%◌, ◌<◌, ◌≤◌, Bool, true, false, not, ◌&&◌, ◌||◌, eqb, ltb, List, get_or, sym, refl, ap, ◌∙◌, subst, ap₂, ⊎_elim, mul_comm, add-one, arith}
+use Rattle.std.proofs.Common.{◌≡◌, ℕ, suc, ◌+◌, ◌-◌, ◌*◌, ◌/◌, ◌<◌, ◌≤◌, Bool, true, false, ◌&&◌, ◌||◌, eqb, ltb, List, get_or, sym, refl, ap, ◌∙◌, ap₂, ⊎_elim, add-one, arith}
 use lib.Bits.{bit_and}
-use Rattle.std.proofs.lemmas.Bool.{cases_lt, cases_eq, lt-ltb, le-ltb, and_left, cond-true, cond-false, or_from, ne_eqb}
-use Rattle.std.proofs.lemmas.Nat.{mul-le}
+use Rattle.std.proofs.lemmas.Bool.{cases_lt, lt-ltb, le-ltb, and_left, cond-true, cond-false, or_from, ne_eqb}
 use Rattle.cover_theory.specs.Rule.{Rel, Side, Sides, count, shared, chosen, better, joined_by, widen}
-use Rattle.network_theory.specs.Layout.{bit}
 use Rattle.cover_theory.specs.Rows.{marked, stands_at, conflicts, Fit, held, Neat}
 use Rattle.cover_theory.proofs.Grows.{agree}
 use Rattle.cover_theory.proofs.Starts.{mark_and}
-
--- ---- severing
-
-pub law : (s p q : Bool) → ((s && not p) && not q) ≡ (s && not (p || q))
-law true true q = refl
-law true false q = refl
-law false p q = refl
-
-pub kept : (s m : Bool) → s ≡ (s && not (false && m))
-kept true m = refl
-kept false m = refl
-
-module _ (ws vs us : List ℕ) (R u : ℕ) (P : ℕ → ℕ → Bool)
-    (done : (v j : ℕ) → v < u → j < 64 * R → stands_at vs R v j ≡ (stands_at ws R v j && not (P v j)))
-    (later : (k : ℕ) → u * R ≤ k → get_or vs k 0 ≡ get_or ws k 0)
-    (inside : (j : ℕ) → j < 64 * R → stands_at us R u j ≡ (stands_at vs R u j && not (P u j)))
-    (before : (k : ℕ) → k < u * R → get_or us k 0 ≡ get_or vs k 0)
-    (after : (k : ℕ) → u * R + R ≤ k → get_or us k 0 ≡ get_or vs k 0) where
-  pub sever_more : ((v j : ℕ) → v < u + 1 → j < 64 * R → stands_at us R v j ≡ (stands_at ws R v j && not (P v j))) × ((k : ℕ) → (u + 1) * R ≤ k → get_or us k 0 ≡ get_or ws k 0)
-  sever_more = (
-    (λ v j h g. ⊎_elim (λ e.
-        subst (λ z. stands_at us R z j ≡ (stands_at ws R z j && not (P z j))) (sym e)
-        (inside j g ∙ ap (λ z. bit z (j % 64) && not (P u j)) (later (u * R + j / 64) (omega arith))))
-        (λ ne.
-        let l : v < u = omega arith in
-        ap (λ z. bit z (j % 64)) (before (v * R + j / 64) (omega (arith, mul-le (v + 1) R u R (omega arith) (omega arith), mul_comm (v + 1) R, mul_comm v R))) ∙ done v j l g)
-        (cases_eq v u)),
-    (λ k h. let m : u * R + R ≤ k = omega (arith, mul_comm (u + 1) R, mul_comm u R) in after k m ∙ later k (omega arith)),
-  )
 
 -- ---- widening
 
 join_law : (l m e : Bool) → (l && (m || e)) ≡ (l && ((l && m) || e))
 join_law true m e = refl
 join_law false m e = refl
-
-and_false : (a b : Bool) → a ≡ false → (a && b) ≡ false
-and_false a b h = ap (λ z. z && b) h
 
 module _ (N R : ℕ) (ws : List ℕ) (fit : Fit N R ws) (a b : List ℕ) (na : Neat N R a) (nb : Neat N R b) (c : ℕ) (hc : c < N) where
   module _ (a' : List ℕ) (joins : (j : ℕ) → marked a' j ≡ (marked a j || eqb c j)) where

@@ -1,6 +1,6 @@
 use Rattle.std.proofs.Common.{◌≡◌, ℕ, zero, suc, ◌+◌, ◌-◌, ◌*◌, ◌/◌, ◌<◌, ◌≤◌, false, ◌&&◌, leb, List, [], ◌∷◌, ◌++◌, length, get_or, take, set, sym, ◌∙◌, subst, arith}
 use lib.Bits.{bit_and}
-use Rattle.std.proofs.lemmas.List.{take_more_set, length-take-le, get_or-take}
+use Rattle.std.proofs.lemmas.List.{take_more_set, length-take-le}
 use Rattle.cover_theory.specs.Rule.{clashes, grow, grown}
 use Rattle.cover_theory.specs.Rows.{marked, stands_at, conflicts, Tidy, Loose, Masks, Lowest, Bare}
 use Rattle.cover_theory.proofs.Grows.{c_lt, go_on, ends_on, masks_on, stop_bare, grow_full}
@@ -51,9 +51,6 @@ module _ (N R : ℕ) (ws : List ℕ) (tidy : Tidy N R ws) (loose : Loose N R ws)
           places_push N c (take k xs) inv.6 lt,
         )
 
-    pub in_range : (c : ℕ) → Lowest mask (from / 64) R c → c < N
-    in_range c low = c_lt N R ws tidy loose small (take k xs) mask from inv.3 inv.4 c low
-
     pub ended : Bare mask (from / 64) (64 * R) → take k xs ≡ grown N (conflicts N R ws) u w
     ended bare = sym (stop_bare N R ws tidy loose small (take k xs) mask from inv.3 inv.4 inv.2 bare) ∙ inv.5
 
@@ -61,8 +58,3 @@ module _ (N R : ℕ) (ws : List ℕ) (tidy : Tidy N R ws) (loose : Loose N R ws)
     filled full room =
         let len : length (take k xs) ≡ k = length-take-le k xs room in
         sym (grow_full (conflicts N R ws) (take k xs) N from inv.2 (omega arith)) ∙ inv.5
-
-    pub placed : k ≤ length xs → (i : ℕ) → i < k → get_or xs i 0 < N
-    placed room i h =
-        let len : length (take k xs) ≡ k = length-take-le k xs room in
-        subst (λ z. z < N) (get_or-take k xs i 0 h) (inv.6 i (omega arith))

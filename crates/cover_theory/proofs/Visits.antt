@@ -1,64 +1,9 @@
-use Rattle.std.proofs.Common.{◌≡◌, ℕ, zero, suc, ◌+◌, ◌-◌, ◌*◌, ◌<◌, ◌≤◌, Bool, true, false, cond, not, ◌&&◌, leb, List, ◌++◌, length, get_or, take, drop, ℤ, sym, refl, ap, ◌∙◌, ap₂, ⊎_elim, append_assoc, add-one, arith}
-use Rattle.std.proofs.lemmas.List.{length-append, length-map, length-take-le, take_at, drop_at, drop-drop}
-use Rattle.std.proofs.lemmas.Bool.{cond-true, cond-false, cases_lt, both_ways, le-leb, and_left}
-use Rattle.cover_theory.specs.Rule.{Rel, among, without, grown, taken, visit, visits, sweep}
+use Rattle.std.proofs.Common.{◌≡◌, ℕ, zero, suc, ◌+◌, ◌-◌, ◌<◌, ◌≤◌, Bool, true, false, cond, leb, List, length, ℤ, sym, ap, ◌∙◌, ap₂, add-one, arith}
+use Rattle.std.proofs.lemmas.List.{length-append}
+use Rattle.std.proofs.lemmas.Bool.{cond-false}
+use Rattle.cover_theory.specs.Rule.{Rel, without, grown, taken, visit, visits, sweep}
 use Rattle.cover_theory.specs.Parts.{Part, clique}
-use Rattle.cover_theory.specs.Rows.{stands_at, conflicts, listed, told, Flat, Fit, Went, First}
-use Rattle.logic.specs.Literal.{literal}
-use Rattle.cover_theory.proofs.Grows.{agree}
-
--- ---- one visit
-
-module _ (N R : ℕ) (ws : List ℕ) (xs : List ℤ) (u w at : ℕ) (ms : List ℕ) (fit : Fit N R ws) (hu : u < N) (hw : w < N) (here : stands_at ws R u w ≡ true)
-    (grows : ms ≡ grown N (conflicts N R ws) u w) (big : 6 ≤ length ms) where
-  pub visit_big : ◌≡◌ {A = Flat} (visit told N (conflicts N R ws, take at xs) u w) (without (conflicts N R ws) ms, take at xs ++ listed (clique ms))
-  visit_big =
-      let small = fit.small in
-      cond-true (conflicts N R ws u w) _ _ (sym (agree N R ws fit.tidy fit.small u w hu (omega arith)) ∙ here)
-      ∙ ap (λ z. taken told (conflicts N R ws) z (take at xs)) (sym grows)
-      ∙ cond-true (leb 6 (length ms)) _ _ (le-leb 6 (length ms) big)
-
-  pub too_short : (k : ℕ) → at ≤ length xs → length xs - at < k + 1 → length ms ≡ k → length xs < length (visit told N (conflicts N R ws, take at xs) u w).1
-  too_short k h short len =
-      let e : length (visit told N (conflicts N R ws, take at xs) u w).1 ≡ at + suc (length ms) =
-      ap (λ (s : Flat). length s.1) visit_big ∙ length-append (take at xs) (listed (clique ms))
-      ∙ ap₂ (λ a b. a + suc b) (length-take-le at xs h) (length-map ms literal) in
-      omega arith
-
-  module _ (vs : List ℕ) (ys : List ℤ) (k : ℕ) (len : length ms ≡ k) (at_in : at + k + 1 ≤ length xs) (same : length vs ≡ length ws)
-      (gone : (a j : ℕ) → a < N → j < 64 * R → stands_at vs R a j ≡ (stands_at ws R a j && not (among ms a && among ms j)))
-      (left : conflicts N R vs ≡ without (conflicts N R ws) ms)
-      (rest : (i : ℕ) → N * R ≤ i → get_or vs i 0 ≡ get_or ws i 0)
-      (ys-is : ys ≡ take at xs ++ (listed (clique ms) ++ drop (at + k + 1) xs)) where
-    still : Fit N R vs
-    still = record {
-      tidy = λ a j p q r. gone a j p r ∙ and_left (stands_at ws R a j) _ (fit.tidy a j p q r);
-      loose = λ a p. let small = fit.small in gone a a p (omega arith) ∙ and_left (stands_at ws R a a) _ (fit.loose a p);
-      small = fit.small;
-      few = fit.few;
-      room = omega (arith, fit.room);
-    }
-
-    front : length (take at xs ++ listed (clique ms)) ≡ at + k + 1
-    front =
-        let e = length-append (take at xs) (listed (clique ms)) in let f = length-take-le at xs (omega arith) in let g = length-map ms literal in
-        omega (arith, e, f, g)
-
-    regrouped : ys ≡ (take at xs ++ listed (clique ms)) ++ drop (at + k + 1) xs
-    regrouped = ys-is ∙ sym (append_assoc (take at xs) (listed (clique ms)) (drop (at + k + 1) xs))
-
-    front_is : take (at + k + 1) ys ≡ take at xs ++ listed (clique ms)
-    front_is = ap (take (at + k + 1)) regrouped ∙ take_at (take at xs ++ listed (clique ms)) (drop (at + k + 1) xs) (at + k + 1) front
-
-    pub went : Went N R ws vs xs ys at (at + k + 1) (visit told N (conflicts N R ws, take at xs) u w)
-    went = record {
-      fit = still;
-      rest = rest;
-      state = (λ i. (left i, front_is i)) ∙ sym visit_big;
-      tail = ap (drop (at + k + 1)) regrouped ∙ drop_at (take at xs ++ listed (clique ms)) (drop (at + k + 1) xs) (at + k + 1) front;
-      low = omega arith;
-      high = at_in;
-    }
+use Rattle.cover_theory.specs.Rows.{listed, told, Flat}
 
 -- ---- a row
 
@@ -104,44 +49,19 @@ visits_longer N s u zero w = omega arith
 visits_longer N s u (suc k) w = omega (arith, visit_longer N s u w, visits_longer N (visit told N s u w) u k (suc w))
 
 -- what the loop of a row knows
-module _ (N R : ℕ) (ws : List ℕ) (xs : List ℤ) (u used from : ℕ) (fit : Fit N R ws) (hu : u < N) (low : u + 1 ≤ from) (high : from ≤ N) where
-  pub w_in : (w : ℕ) → First ws R u from w → w < N
-  w_in w f = ⊎_elim (λ h. h) (λ h. absurd (both_ways _ (fit.tidy u w hu h f.high) f.here)) (cases_lt w N)
+module _ (N : ℕ) (rel : Rel) (xs : List ℤ) (u from : ℕ) where
+  pub row_step : (w : ℕ) → from ≤ w → w < N → ((j : ℕ) → from ≤ j → j < w → rel u j ≡ false)
+      → ◌≡◌ {A = Flat} (visits told N (rel, xs) u (N - from) from) (visits told N (visit told N (rel, xs) u w) u (N - (w + 1)) (w + 1))
+  row_step w low high before = visits_to told N u (rel, xs) from w low high before
 
-  quiet : (to : ℕ) → to ≤ N → ((j : ℕ) → from ≤ j → j < to → stands_at ws R u j ≡ false) → (j : ℕ) → from ≤ j → j < to → conflicts N R ws u j ≡ false
-  quiet to ht h j p q = let small = fit.small in sym (agree N R ws fit.tidy fit.small u j hu (omega arith)) ∙ h j p q
+  pub row_end : from ≤ N → ((j : ℕ) → from ≤ j → rel u j ≡ false) → ◌≡◌ {A = Flat} (visits told N (rel, xs) u (N - from) from) (rel, xs)
+  row_end high none = visits_none told N u (rel, xs) from high (λ j p q. none j p)
 
-  pub row_step : (w : ℕ) → First ws R u from w
-      → ◌≡◌ {A = Flat} (visits told N (conflicts N R ws, take used xs) u (N - from) from) (visits told N (visit told N (conflicts N R ws, take used xs) u w) u (N - (w + 1)) (w + 1))
-  row_step w f = let l = w_in w f in visits_to told N u (conflicts N R ws, take used xs) from w f.low (w_in w f) (quiet w (omega arith) f.before)
-
-  pub row_end : ((j : ℕ) → from ≤ j → j < 64 * R → stands_at ws R u j ≡ false) → ◌≡◌ {A = Flat} (visits told N (conflicts N R ws, take used xs) u (N - from) from) (conflicts N R ws, take used xs)
-  row_end none = let small = fit.small in visits_none told N u (conflicts N R ws, take used xs) from high (quiet N (omega arith) (λ j p q. none j p (omega arith)))
-
-  pub row_short : (w n : ℕ) → First ws R u from w → n < length (visit told N (conflicts N R ws, take used xs) u w).1 → n < length (visits told N (conflicts N R ws, take used xs) u (N - from) from).1
-  row_short w n f h =
-      let e = ap (λ (s : Flat). length s.1) (row_step w f) in
-      omega (arith, e, visits_longer N (visit told N (conflicts N R ws, take used xs) u w) u (N - (w + 1)) (w + 1))
-
--- one after the other
-pub went_on : (N R : ℕ) (ws vs us : List ℕ) (xs ys zs : List ℤ) (at to end : ℕ) (s t : Flat) → length ys ≡ length xs
-    → Went N R ws vs xs ys at to s → Went N R vs us ys zs to end t → Went N R ws us xs zs at end t
-went_on N R ws vs us xs ys zs at to end s t len p q = record {
-  fit = q.fit;
-  rest = λ i h. q.rest i h ∙ p.rest i h;
-  state = q.state;
-  tail = q.tail ∙ drops to end ys xs q.low p.tail;
-  low = omega (arith, p.low, q.low);
-  high = omega (arith, q.high);
-}
-  where
-    drops : (to end : ℕ) (ys xs : List ℤ) → to ≤ end → drop to ys ≡ drop to xs → drop end ys ≡ drop end xs
-    drops to end ys xs h e =
-        let f : to + (end - to) ≡ end = omega arith in
-        ap (λ n. drop n ys) (sym f) ∙ sym (drop-drop (end - to) to ys) ∙ ap (drop (end - to)) e ∙ drop-drop (end - to) to xs ∙ ap (λ n. drop n xs) f
-
-pub went_as : (N R : ℕ) (ws vs : List ℕ) (xs ys : List ℤ) (at to : ℕ) (s t : Flat) → ◌≡◌ {A = Flat} (conflicts N R vs, take to ys) t → Went N R ws vs xs ys at to s → Went N R ws vs xs ys at to t
-went_as N R ws vs xs ys at to s t e p = record { fit = p.fit; rest = p.rest; state = e; tail = p.tail; low = p.low; high = p.high }
+  pub row_short : (w n : ℕ) → from ≤ w → w < N → ((j : ℕ) → from ≤ j → j < w → rel u j ≡ false) → n < length (visit told N (rel, xs) u w).1
+      → n < length (visits told N (rel, xs) u (N - from) from).1
+  row_short w n low high before h =
+      let e = ap (λ (s : Flat). length s.1) (row_step w low high before) in
+      omega (arith, e, visits_longer N (visit told N (rel, xs) u w) u (N - (w + 1)) (w + 1))
 
 -- ---- all rows
 
@@ -163,6 +83,3 @@ sweep_all N s u h = ap (λ x. sweep told N s x u) (let e : N - u ≡ 0 = omega a
 
 pub sweep_start : (N : ℕ) (s : Flat) → ◌≡◌ {A = Flat} (sweep told N s (N - 0) 0) (sweep told N s N 0)
 sweep_start N s = ap (λ x. sweep told N s x 0) (let e : N - 0 ≡ N = omega arith in e)
-
-pub went_none : (N R : ℕ) (ws : List ℕ) (xs : List ℤ) → Fit N R ws → Went N R ws ws xs xs 0 0 (conflicts N R ws, take 0 xs)
-went_none N R ws xs fit = record { fit = fit; rest = λ i h. refl; state = refl; tail = refl; low = omega arith; high = omega arith }

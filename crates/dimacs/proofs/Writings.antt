@@ -99,7 +99,7 @@ pub record Writable (n : ℕ) (zs : List ℤ) : Type 0 where
   pub over : unclosed zs ≡ false
 
 not_refused : (t : Bool) (refusal : Refusal) (rest : Option Refusal) → cond t (Some refusal) rest ≡ None → (t ≡ false) × (rest ≡ None)
-not_refused true refusal rest e = let z : ◌≡◌ {A = ℕ} 0 1 = cc in absurd (omega arith)
+not_refused true refusal rest e = cc
 not_refused false refusal rest e = (refl, e)
 
 pub writable : (n : ℕ) (zs : List ℤ) (room : ℕ) → write_refusal n zs room ≡ None → Writable n zs

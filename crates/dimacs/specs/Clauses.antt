@@ -1,5 +1,6 @@
 -- Clauses of any length as a list of numbers: the literals of each, and a closing 0.
-use Rattle.std.specs.Prelude.{ℕ, ◌+◌, ◌-◌, Bool, false, cond, not, ◌||◌, List, [], ◌∷◌, ◌++◌, length, ℤ, pos, ◌==◌, nat_lt, slice_index_or}
+use Rattle.std.specs.Prelude.{ℕ, ◌+◌, ◌-◌, Bool, cond, not, List, [], ◌∷◌, ◌++◌, length, ℤ, pos, ◌==◌, nat_lt, slice_index_or}
+use Rattle.std.specs.List.{list_any}
 use Rattle.logic.specs.Literal.{variable, Literal}
 
 abbrev pub numbers : List (List ℤ) → List ℤ
@@ -30,5 +31,4 @@ unclosed zs = not (closes (slice_index_or zs (length zs - 1) (pos 0)))
 
 -- some number is on a variable above n
 abbrev pub exceeds : ℕ → List ℤ → Bool
-exceeds n [] = false
-exceeds n (z ∷ zs) = nat_lt n (variable z) || exceeds n zs
+exceeds n zs = list_any (λ z. nat_lt n (variable z)) zs

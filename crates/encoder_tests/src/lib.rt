@@ -8,6 +8,7 @@ mod tests {
     use fault::{Fault, Layer, Refusal};
     use pairwise::Pairwise;
     use sequential::Sequential;
+    use std::array;
     use std::process::Abort;
     use std::test::Fail;
 
@@ -25,12 +26,10 @@ mod tests {
 
     // The members 1, -2, 3, -4 and so on.
     fn sample() -> [i32; 257] {
-        let mut members = [0; 257];
-        for i in 0..257 {
+        array::from_fn(|i| {
             let variable = i as i32 + 1;
-            members[i] = if i % 2 == 0 { variable } else { -variable };
-        }
-        members
+            if i % 2 == 0 { variable } else { -variable }
+        })
     }
 
     // Numbers of members, of clauses and of auxiliaries.
@@ -92,14 +91,12 @@ mod tests {
         let n = clauses.len();
         assert!(rt; n <= 30);
         let mut out = [9; 32];
-        assert_eq!(rt; e.write(members, 300, &mut out[0..n + 2]), Ok(()));
-        for i in 0..n {
-            assert_eq!(rt; out[i], clauses[i]);
-        }
-        assert_eq!(rt; (out[n], out[n + 1]), (9, 9));
+        assert_eq!(rt; e.write(members, 300, &mut out[..n + 2]), Ok(()));
+        assert_eq!(rt; &out[..n], clauses);
+        assert_eq!(rt; &out[n..n + 2], [9, 9].as_slice());
         if n > 0 {
             let mut short = [9; 32];
-            assert_eq!(rt; e.write(members, 300, &mut short[0..n - 1]), Err(SHORT));
+            assert_eq!(rt; e.write(members, 300, &mut short[..n - 1]), Err(SHORT));
             assert_eq!(rt; short, [9; 32]);
         }
     }
@@ -135,13 +132,11 @@ mod tests {
         let n = values.len();
         assert!(rt; n > 0 && n <= 6);
         let mut out = [9; 8];
-        assert_eq!(rt; e.values(5, place, &mut out[0..n + 1]), Ok(()));
-        for i in 0..n {
-            assert_eq!(rt; out[i], values[i]);
-        }
+        assert_eq!(rt; e.values(5, place, &mut out[..n + 1]), Ok(()));
+        assert_eq!(rt; &out[..n], values);
         assert_eq!(rt; out[n], 9);
         let mut short = [9; 8];
-        assert_eq!(rt; e.values(5, place, &mut short[0..n - 1]), Err(SHORT));
+        assert_eq!(rt; e.values(5, place, &mut short[..n - 1]), Err(SHORT));
         assert_eq!(rt; short, [9; 8]);
     }
 
@@ -180,9 +175,11 @@ mod tests {
         e.values(members.len(), place, &mut bytes)?;
         let clauses = e.clauses(members.len())?;
         assert!(rt; clauses <= 32_640);
-        for k in 0..clauses {
+        for clause in numbers[..2 * clauses].chunks_exact(2) {
             assert!(rt;
-                is_true(numbers[2 * k], place, &bytes) || is_true(numbers[2 * k + 1], place, &bytes)
+                clause
+                    .iter()
+                    .any(|literal| is_true(*literal, place, &bytes))
             );
         }
         Ok(())
@@ -197,7 +194,7 @@ mod tests {
     ) -> Result<(), Fault> {
         assert!(rt; room <= 65_280);
         let mut numbers = [0; 65_280];
-        e.write(members, 300, &mut numbers[0..room])
+        e.write(members, 300, &mut numbers[..room])
     }
 
     // A buffer that just fits is taken, and one that is a number shorter is not.
@@ -250,7 +247,7 @@ mod tests {
     fn refuses<E: Encoder>(rt: &impl Abort, e: &E, members: &[i32], first: i32) {
         let mut out = [5; 8];
         assert_eq!(rt; e.write(members, first, &mut out), Err(UNFIT));
-        assert_eq!(rt; e.write(members, first, &mut out[0..1]), Err(UNFIT));
+        assert_eq!(rt; e.write(members, first, &mut out[..1]), Err(UNFIT));
         assert_eq!(rt; out, [5; 8]);
     }
 
@@ -267,7 +264,7 @@ mod tests {
         refuses(rt, e, &[1, 2], 1_000_000_002);
         let mut bytes = [5; 4];
         assert_eq!(rt; e.values(3, Some(3), &mut bytes), Err(UNFIT));
-        assert_eq!(rt; e.values(0, Some(0), &mut bytes[0..0]), Err(UNFIT));
+        assert_eq!(rt; e.values(0, Some(0), &mut bytes[..0]), Err(UNFIT));
         assert_eq!(rt; bytes, [5; 4]);
     }
 

@@ -1,8 +1,10 @@
 -- Binary keeps the laws.
-use Rattle.std.proofs.Common.{◌≡◌, ℕ, zero, suc, ◌+◌, ◌*◌, ◌/◌, ◌%◌, ◌^◌, ◌<◌, ◌≤◌, Bool, true, false, eqb, leb, ◌≢◌, List, [], ◌∷◌, length, ℤ, Some, None, Option, sym, refl, ap, ◌∙◌, subst, inl, inr, ⊎_elim, mul-le-mul_left, arith, pow_pos, shr-shr}
+use Rattle.std.proofs.Common.{◌≡◌, ℕ, zero, suc, ◌+◌, ◌*◌, ◌/◌, ◌%◌, ◌^◌, ◌<◌, ◌≤◌, Bool, true, false, eqb, leb, ◌≢◌, List, [], ◌∷◌, length, ℤ, Some, None, Option, sym, refl, ap, ◌∙◌, subst, inl, inr, ⊎_elim, mul-le-mul_left, max, arith, pow_pos, shr-shr}
 use native.Mathlib.Nat.{two-pow-succ}
+use Rattle.std.specs.Int.{IsPowerOfTwo}
+use Rattle.std.proofs.Math.Pow.{pow_mono}
 use Rattle.std.proofs.lemmas.Bool.{eqb-true, eqb-false, leb-true, leb-false, cases_eq, cases_lt, cases_Bool, cond-true, cond-false, both_ways}
-use Rattle.std.proofs.lemmas.Nat.{mod_below}
+use Rattle.std.proofs.lemmas.Nat.{mod_below, pow_below}
 use Rattle.std.proofs.lemmas.List.FromFn.{length-map-range_with_len, get_or-map-range_with_len}
 use Rattle.logic.specs.Literal.{variable, complement}
 use Rattle.logic.specs.Clause.{Clause, Assignment, holds, Met, In}
@@ -50,6 +52,18 @@ bits_only m b enough below =
     let l = bits_least m in
     let u = l.least b enough in
     ⊎_elim (λ h. absurd (let p = below (bits m) h in let q = l.enough in omega arith)) (λ h. omega arith) (cases_lt (bits m) b)
+
+-- the exponent of the next power of two
+pub bits_power : (m r k : ℕ) → IsPowerOfTwo r → m ≤ r → r / 2 < max 1 m → 2 ^ k ≤ r → r < 2 * 2 ^ k → k ≡ bits m
+bits_power m r k (j, e) enough tight l u =
+    let s = two-pow-succ k in
+    let same : r ≡ 2 ^ k =
+    ⊎_elim
+    (λ (h : j < k). absurd (let p = pow_below j k h in omega arith))
+    (λ (h : k ≤ j). ⊎_elim (λ (q : k ≡ j). e ∙ ap (λ i. 2 ^ i) (sym q)) (λ (ne : k ≢ j). absurd (let p : 2 ^ suc k ≤ 2 ^ j = pow_mono (omega arith) in omega arith)) (cases_eq k j))
+    (cases_lt j k) in
+    bits_only m k (omega arith)
+    (λ i h. let p : 2 ^ suc i ≤ 2 ^ k = pow_mono (omega arith) in let q = two-pow-succ i in let z = pow_pos i in omega arith)
 
 pub bits_below : (m : ℕ) → bits m ≤ m
 bits_below m = (bits_least m).least m (below_power m)

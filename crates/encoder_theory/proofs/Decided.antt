@@ -1,8 +1,6 @@
 -- The tests of a call's members and place say what the laws ask for.
-use Rattle.std.proofs.Common.{◌≡◌, ℕ, zero, suc, ◌+◌, ◌<◌, ◌≤◌, Bool, true, false, not, ◌&&◌, eqb, ltb, leb, List, [], ◌∷◌, length, ℤ, pos, negsuc, nat_abs, Some, None, Decides, Option, sym, refl, ap, arith}
-use lib.Signed.{lt_z}
-use Rattle.std.proofs.lemmas.Bool.{ltb-true, ltb-false, lt-ltb, leb-true, le-leb, eq-eqb, ne_eqb, both_ways, and_parts, and_from, and_left, or_from, or_left, or_right, not-true, not_from_false}
-use Rattle.std.proofs.lemmas.Bool.Decides.{same_from_decides}
+use Rattle.std.proofs.Common.{◌≡◌, ℕ, zero, suc, ◌+◌, ◌<◌, ◌≤◌, true, false, not, ◌&&◌, eqb, ltb, leb, List, [], ◌∷◌, length, ℤ, pos, negsuc, Some, None, Decides, Option, sym, refl, ap, arith}
+use Rattle.std.proofs.lemmas.Bool.{ltb-true, lt-ltb, leb-true, le-leb, eq-eqb, ne_eqb, both_ways, and_parts, and_from, and_left, or_from, or_left, or_right, not-true, not_from_false}
 use Rattle.logic.specs.Literal.{variable}
 use Rattle.encoder_theory.specs.Members.{member, Proper, Within}
 use Rattle.encoder_theory.specs.Meaning.{Admitted, most_members, last_end}
@@ -86,12 +84,3 @@ placed_decides m (Some t) = (
   λ h. let p = and_parts (leb m most_members) (ltb t m) h in (leb-true m most_members p.0, ltb-true t m p.1),
   λ k. and_from _ _ (le-leb m most_members k.0) (lt-ltb t m k.1),
 )
-
--- the last test, once the others have passed
-pub by_proper : (xs : List ℤ) (first : ℤ) (n : ℕ) (r : Bool) → lt_z first (pos 1) ≡ false → length xs ≤ most_members → nat_abs first + n ≤ last_end
-    → Decides r (Proper xs (nat_abs first)) → r ≡ is_admitted xs first n
-by_proper xs (pos z) n r starts few fits d = same_from_decides r (is_admitted xs (pos z) n) both (admitted_decides xs z n)
-  where
-    both : Decides r (Admitted xs z n)
-    both = (λ h. record { few = few; starts = ltb-false z 1 starts; fits = fits; proper = d.0 h }, λ k. d.1 k.proper)
-by_proper xs (negsuc k) n r starts few fits d = absurd (both_ways true starts refl)

@@ -1,6 +1,7 @@
 -- Lists made number by number: what is in them, how long they are, and one number more.
-use Rattle.std.proofs.Common.{◌≡◌, ℕ, zero, suc, ◌+◌, ◌-◌, ◌*◌, ◌<◌, ◌≤◌, List, [], ◌∷◌, ◌++◌, length, sym, ap, subst, inl, inr, ⊎_elim, suc-mul, arith, length-append}
+use Rattle.std.proofs.Common.{◌≡◌, ℕ, zero, suc, ◌+◌, ◌-◌, ◌*◌, ◌<◌, ◌≤◌, List, [], ◌∷◌, ◌++◌, length, sym, ap, ◌∙◌, subst, append_assoc, inl, inr, ⊎_elim, suc-mul, arith, length-append}
 use Rattle.std.proofs.lemmas.Bool.{cases_eq}
+use Rattle.std.proofs.lemmas.List.{append-nil}
 use Rattle.logic.specs.Clause.{In}
 use Rattle.logic.proofs.Clauses.{in_left, in_right, in_cases}
 use Rattle.encoder_theory.specs.Each.{each}
@@ -40,5 +41,20 @@ module _ {X : Type 0} (f : ℕ → List X) where
   pub each_more : (i n : ℕ) → i < n → each i (n - i) f ≡ f i ++ each (i + 1) (n - (i + 1)) f
   each_more i n l = let e : n - i ≡ suc (n - (i + 1)) = omega arith in ap (λ k. each i k f) e
 
-  pub each_all : (i n : ℕ) → n ≤ i → each i (n - i) f ≡ []
-  each_all i n l = let e : n - i ≡ 0 = omega arith in ap (λ k. each i k f) e
+  -- one number more at the end, and no more numbers than there are
+  pub each_next : (a n : ℕ) → each a (n + 1) f ≡ each a n f ++ f (a + n)
+  each_next a zero = append-nil (f a) ∙ ap f (omega arith)
+  each_next a (suc n) =
+      let e : a + 1 + n ≡ a + suc n = omega arith in
+      let h : suc n + 1 ≡ suc (n + 1) = omega arith in
+      ap (λ k. each a k f) h ∙ ap (λ ys. f a ++ ys) (each_next (a + 1) n) ∙ sym (append_assoc (f a) (each (a + 1) n f) (f (a + 1 + n))) ∙ ap (λ k. (f a ++ each (a + 1) n f) ++ f k) e
+
+  pub each_last : (n : ℕ) → each 0 (n + 1) f ≡ each 0 n f ++ f n
+  each_last n = each_next 0 n ∙ ap (λ k. each 0 n f ++ f k) (omega arith)
+
+  pub length_each_part : (a k n : ℕ) → k ≤ n → length (each a k f) ≤ length (each a n f)
+  length_each_part a zero n l = omega arith
+  length_each_part a (suc k) zero l = absurd (omega arith)
+  length_each_part a (suc k) (suc n) l =
+      let r = length_each_part (a + 1) k n (omega arith) in
+      omega (arith, length-append (f a) (each (a + 1) k f), length-append (f a) (each (a + 1) n f))

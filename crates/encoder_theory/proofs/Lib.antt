@@ -4,14 +4,12 @@ pub mod PairwiseLaws
 pub mod SequentialLaws
 pub mod BinaryLaws
 pub mod Decided
-pub mod Buffers
-pub mod Blocks
 pub mod Inner
+pub mod Appended
 pub mod Signs
-pub mod Grids
+pub mod Rows
 pub mod PairwisePut
 pub mod BinaryPut
 pub mod Answered
 pub mod SequentialPut
-pub mod Tables
 pub mod Equals

@@ -1,5 +1,6 @@
 -- What the four calls of an encoder answer, and what they leave in the buffer.
-use Rattle.std.specs.Prelude.{ℕ, ◌+◌, ◌*◌, Bool, true, false, cond, not, ◌&&◌, ◌||◌, List, [], ◌∷◌, ◌++◌, map, length, drop, ℤ, pos, negsuc, Some, None, Ok, Err, Option, Result, ◌==◌, nat_le, nat_lt, unsigned_abs}
+use Rattle.std.specs.Prelude.{ℕ, ◌+◌, ◌*◌, Bool, true, false, cond, not, ◌&&◌, List, [], ◌∷◌, ◌++◌, map, length, drop, ℤ, pos, negsuc, Some, None, Ok, Err, Option, Result, ◌==◌, nat_le, nat_lt, unsigned_abs}
+use Rattle.std.specs.List.{list_any}
 use Rattle.fault.specs.declared.Fault.{Fault}
 use Rattle.fault.specs.declared.Layer.TheVariants.{Encoder}
 use Rattle.fault.specs.declared.Refusal.TheVariants.{BufferShort, UnfitMembers}
@@ -18,8 +19,7 @@ short = record { refusal = BufferShort; layer = Encoder; place = 0 }
 
 -- a member is on the variable v
 abbrev pub uses : List ℤ → ℕ → Bool
-uses [] v = false
-uses (x ∷ xs) v = variable x == v || uses xs v
+uses xs v = list_any (λ x. variable x == v) xs
 
 -- the members are literals on distinct variables below first
 abbrev pub is_proper : List ℤ → ℕ → Bool
@@ -50,10 +50,10 @@ told m n = answer (nat_le m most_members) true n
 
 module _ (M : Meaning) where
   -- a call admits the members, and the buffer has room for the clauses
-  abbrev clauses_fit : List ℤ → ℤ → Bool
+  abbrev pub clauses_fit : List ℤ → ℤ → Bool
   clauses_fit xs first = is_admitted xs first (M.auxiliaries (length xs))
 
-  abbrev clauses_room : List ℤ → List ℤ → Bool
+  abbrev pub clauses_room : List ℤ → List ℤ → Bool
   clauses_room xs out = nat_le (2 * M.clauses (length xs)) (length out)
 
   -- what `write` answers
@@ -69,7 +69,7 @@ module _ (M : Meaning) where
   write_leaves xs first out = left (clauses_fit xs first) (clauses_room xs out) (written xs (unsigned_abs first) out) out
 
   -- the buffer has room for the values
-  abbrev values_room : ℕ → List ℕ → Bool
+  abbrev pub values_room : ℕ → List ℕ → Bool
   values_room m out = nat_le (M.auxiliaries m) (length out)
 
   -- what `values` answers

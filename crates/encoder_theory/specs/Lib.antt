@@ -3,6 +3,7 @@ pub mod Meaning
 pub mod Laws
 pub mod Buffer
 pub mod Calls
+pub mod Appended
 pub mod Each
 pub mod Pairwise
 pub mod Binary

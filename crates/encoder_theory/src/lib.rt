@@ -6,11 +6,13 @@
 ghost use Rattle.encoder_theory.specs.Theorems.{ExactAdmission, EqualsAlike, LeastBits, Sizes, Lists};
 
 // A call admits members, first number and place exactly where the laws speak of them.
+#[tactic(auto, using(crate::proofs::Decided::admitted_decides, crate::proofs::Decided::placed_decides))]
 pub fn admission_is_exact()
     ensures { ExactAdmission }
 {}
 
 // Equal encoders tell, answer and write the same.
+#[tactic(auto, using(crate::proofs::Equals::equals_alike))]
 pub fn equals_are_alike()
     ensures { EqualsAlike }
 {}

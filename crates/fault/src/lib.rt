@@ -67,7 +67,7 @@ pub struct Fault {
 }
 
 impl Refusal {
-    // The number under which the product's documents list it.
+    // The number under which the product's documents list it. No `From`: `u8::from(refusal)` would not say which number it is.
     pub fn number(self) -> u8
         ensures { result ≡ number_of self }
     {
@@ -90,6 +90,30 @@ impl Refusal {
             Refusal::ClauseListFull => 16,
             Refusal::UnexpectedEnd => 17,
             Refusal::ClauseCount => 18,
+        }
+    }
+}
+
+impl Fault {
+    // A fault outside text.
+    pub fn new(layer: Layer, refusal: Refusal) -> Fault
+        ensures { result ≡ record { refusal = refusal; layer = layer; place = 0 } }
+    {
+        Fault {
+            refusal,
+            layer,
+            place: 0,
+        }
+    }
+
+    // A fault at a byte of a text.
+    pub fn in_text(refusal: Refusal, place: usize) -> Fault
+        ensures { result ≡ record { refusal = refusal; layer = Layer.Text; place = place } }
+    {
+        Fault {
+            refusal,
+            layer: Layer::Text,
+            place,
         }
     }
 }

@@ -2,6 +2,7 @@
 use crate::generator::Generator;
 use crate::sheet::{Pair, Sheet};
 use std::alloc::{AllocError, Global};
+use std::fmt::Write;
 
 const FEEDERS: usize = 16;
 
@@ -14,93 +15,98 @@ const OTHER_ODDS: usize = 4;
 // More pairs than any file within the limits has.
 const MOST_PAIRS: usize = 65_536;
 
-type Feeders = Vec<Vec<Pair>>;
-
-fn hand(feeders: &mut Feeders, at: usize, pair: Pair) -> Result<(), AllocError> {
-    if let Some(feeder) = feeders.get_mut(at) {
-        feeder.push(pair)?;
-    }
-    Ok(())
+// The pairs that each feeder has still to hand in.
+#[derive(Drop)]
+struct Feeders {
+    hands: Vec<Vec<Pair>>,
 }
 
-// Every pair goes to feeders, so many times.
-fn deal(
-    heap: Global,
-    pairs: &[Pair],
-    copies: usize,
-    random: &mut Generator,
-) -> Result<Feeders, AllocError> {
-    let mut feeders = Vec::new(heap);
-    for _ in 0..FEEDERS {
-        feeders.push(Vec::new(heap))?;
+impl Feeders {
+    // Every pair goes to feeders, so many times.
+    fn deal(
+        heap: Global,
+        pairs: &[Pair],
+        copies: usize,
+        random: &mut Generator,
+    ) -> Result<Feeders, AllocError> {
+        let mut hands = Vec::new(heap);
+        for _ in 0..FEEDERS {
+            hands.push(Vec::new(heap))?;
+        }
+        for _ in 0..copies {
+            for pair in pairs {
+                if let Some(hand) = hands.get_mut(random.below(FEEDERS)) {
+                    hand.push(*pair)?;
+                }
+            }
+        }
+        Ok(Feeders { hands })
     }
-    for _ in 0..copies {
-        for pair in pairs {
-            hand(&mut feeders, random.below(FEEDERS), *pair)?;
+
+    // A pair of the feeder whose turn it is, or of the next that has one.
+    fn next_pair(&mut self, turn: usize) -> Option<Pair> {
+        (0..FEEDERS).find_map(|i| {
+            let hand = self.hands.get_mut(turn.wrapping_add(i) % FEEDERS)?;
+            hand.pop()
+        })
+    }
+}
+
+// A text that is being written, and the numbers by which it varies.
+#[derive(Drop)]
+struct Draft {
+    text: String,
+    random: Generator,
+}
+
+impl Draft {
+    fn blank(&mut self) -> &'static str {
+        match self.random.below(BLANK_ODDS) {
+            0 => "\n",
+            1 => "\t",
+            2 => "\r\n",
+            3 => " \n\n  ",
+            4 => "\nc a feeder speaks\n",
+            _ => " ",
         }
     }
-    Ok(feeders)
-}
 
-fn pop_at(feeders: &mut Feeders, at: usize) -> Option<Pair> {
-    match feeders.get_mut(at) {
-        Some(feeder) => feeder.pop(),
-        None => None,
-    }
-}
-
-// A pair of the feeder whose turn it is, or of the next that has one.
-fn next_pair(feeders: &mut Feeders, turn: usize) -> Option<Pair> {
-    for i in 0..FEEDERS {
-        if let Some(pair) = pop_at(feeders, turn.wrapping_add(i) % FEEDERS) {
-            return Some(pair);
+    // A pair clause, one way round or the other.
+    fn put_pair(&mut self, pair: Pair) -> Result<(), AllocError> {
+        let Pair { x, y } = match self.random.below(2) {
+            0 => pair,
+            _ => pair.exchanged(),
+        };
+        for number in [x, y, 0] {
+            let blank = self.blank();
+            write!(self.text, "{number}{blank}")?;
         }
+        Ok(())
     }
-    None
-}
 
-fn blank(random: &mut Generator) -> &'static str {
-    match random.below(BLANK_ODDS) {
-        0 => "\n",
-        1 => "\t",
-        2 => "\r\n",
-        3 => " \n\n  ",
-        4 => "\nc a feeder speaks\n",
-        _ => " ",
+    fn put_other(&mut self, clause: &str) -> Result<(), AllocError> {
+        writeln!(self.text, "{clause}")
     }
-}
 
-fn write_number(
-    heap: Global,
-    text: &mut String,
-    number: i32,
-    random: &mut Generator,
-) -> Result<(), AllocError> {
-    let digits = format!(in heap; "{number}")?;
-    text.push_str(digits.as_str())?;
-    text.push_str(blank(random))
-}
-
-// A pair clause, one way round or the other.
-fn write_pair(
-    heap: Global,
-    text: &mut String,
-    pair: Pair,
-    random: &mut Generator,
-) -> Result<(), AllocError> {
-    let told = if random.below(2) == 0 {
-        pair
-    } else {
-        pair.exchanged()
-    };
-    write_number(heap, text, told.x, random)?;
-    write_number(heap, text, told.y, random)?;
-    write_number(heap, text, 0, random)
-}
-
-fn write_other(text: &mut String, clause: &str) -> Result<(), AllocError> {
-    text.push_str(clause)?;
-    text.push_str("\n")
+    // All that the feeders have, with the other clauses in between, in their order.
+    fn collect(&mut self, feeders: &mut Feeders, others: &[String]) -> Result<(), AllocError> {
+        let mut rest = others.iter();
+        for _ in 0..MOST_PAIRS {
+            let Some(pair) = feeders.next_pair(self.random.below(FEEDERS)) else {
+                break;
+            };
+            self.put_pair(pair)?;
+            if self.random.below(OTHER_ODDS) == 0
+                && let Some(other) = rest.next()
+            {
+                self.put_other(other.as_str())?;
+            }
+        }
+        for other in rest {
+            self.put_other(other.as_str())?;
+        }
+        Ok(())
+    }
 }
 
 // What stands before the clauses.
@@ -108,32 +114,6 @@ fn opening(heap: Global, sheet: &Sheet, clauses: usize) -> Result<String, AllocE
     let front = sheet.front.as_str();
     let variables = sheet.variables;
     format!(in heap; "{front}p cnf {variables} {clauses}\n")
-}
-
-// All that the feeders have, with the other clauses in between, in their order.
-fn collect(
-    heap: Global,
-    text: &mut String,
-    feeders: &mut Feeders,
-    others: &[String],
-    random: &mut Generator,
-) -> Result<(), AllocError> {
-    let mut rest = others.iter();
-    for _ in 0..MOST_PAIRS {
-        let Some(pair) = next_pair(feeders, random.below(FEEDERS)) else {
-            break;
-        };
-        write_pair(heap, text, pair, random)?;
-        if random.below(OTHER_ODDS) == 0
-            && let Some(other) = rest.next()
-        {
-            write_other(text, other.as_str())?;
-        }
-    }
-    for other in rest {
-        write_other(text, other.as_str())?;
-    }
-    Ok(())
 }
 
 // A text that says what the sheet says, each pair so many times.
@@ -144,15 +124,10 @@ pub(crate) fn variant(
     seed: u64,
 ) -> Result<String, AllocError> {
     let mut random = Generator::new(seed);
-    let mut feeders = deal(heap, sheet.pairs.as_slice(), copies, &mut random)?;
+    let mut feeders = Feeders::deal(heap, sheet.pairs.as_slice(), copies, &mut random)?;
     let pairs = sheet.pairs.len().saturating_mul(copies);
-    let mut text = opening(heap, sheet, pairs.saturating_add(sheet.others.len()))?;
-    collect(
-        heap,
-        &mut text,
-        &mut feeders,
-        sheet.others.as_slice(),
-        &mut random,
-    )?;
-    Ok(text)
+    let text = opening(heap, sheet, pairs.saturating_add(sheet.others.len()))?;
+    let mut draft = Draft { text, random };
+    draft.collect(&mut feeders, sheet.others.as_slice())?;
+    Ok(draft.text)
 }

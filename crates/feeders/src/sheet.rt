@@ -33,13 +33,9 @@ pub struct Sheet {
 }
 
 fn numbers_of(heap: Global, line: &str) -> Result<Vec<i32>, AllocError> {
-    let mut numbers = Vec::new(heap);
-    for word in line.split_whitespace() {
-        if let Ok(number) = word.parse::<i32>() {
-            numbers.push(number)?;
-        }
-    }
-    Ok(numbers)
+    line.split_whitespace()
+        .filter_map(|word| word.parse::<i32>().ok())
+        .collect(heap)
 }
 
 fn pair_of(numbers: &[i32]) -> Option<Pair> {
@@ -50,10 +46,11 @@ fn pair_of(numbers: &[i32]) -> Option<Pair> {
 }
 
 fn variables_of(header: &str) -> u32 {
-    match header.split_whitespace().nth(2) {
-        Some(word) => word.parse::<u32>().unwrap_or(0),
-        None => 0,
-    }
+    header
+        .split_whitespace()
+        .nth(2)
+        .and_then(|word| word.parse::<u32>().ok())
+        .unwrap_or(0)
 }
 
 fn front_of(heap: Global, text: &str) -> Result<String, AllocError> {

@@ -17,13 +17,13 @@ enum Verdict {
     Refused,
 }
 
-impl Verdict {
-    fn word(self) -> &'static str {
-        match self {
+impl fmt::Display for Verdict {
+    fn fmt<W: fmt::Write>(&self, f: &mut fmt::Formatter<W>) -> fmt::Result {
+        f.write_str(match self {
             Verdict::Same => "same",
             Verdict::Different => "DIFFERENT",
             Verdict::Refused => "REFUSED",
-        }
+        })
     }
 }
 
@@ -36,9 +36,11 @@ pub struct Trial {
 
 impl fmt::Display for Trial {
     fn fmt<W: fmt::Write>(&self, f: &mut fmt::Formatter<W>) -> fmt::Result {
-        let variants = self.variants;
-        let bytes = self.bytes;
-        let verdict = self.verdict.word();
+        let Trial {
+            variants,
+            bytes,
+            verdict,
+        } = self;
         write!(f, "{variants} variants, {bytes} bytes each, {verdict}")
     }
 }

@@ -1,57 +1,29 @@
 // What is refused before anything is covered, and what once the cover stands.
 ghost use Rattle.std.specs.Prelude.{◌≡◌, ◌+◌, ◌*◌, ◌^◌, ◌≤◌, if◌then◌else◌, Ok, Err, nat_lt};
-ghost use Rattle.network_theory.specs.Layout.{row_words};
 ghost use Rattle.network_theory.specs.Calls.{most_variables};
-ghost use Rattle.formula_theory.specs.Outcome.{terms, range_unfit, exhausted_fault, buffer_fault};
+ghost use Rattle.formula_theory.specs.Outcome.{terms, exhausted_fault, buffer_fault};
 ghost use Rattle.writing_theory.specs.Covering.{range_answer, terms_answer};
 ghost use Rattle.writing_theory.specs.Completing.{valued_answer};
 
-use crate::rows::WORD_BITS;
 use crate::values::check_values;
 use fault::{Fault, Layer, Refusal};
+use network::row_words;
 use writing_theory::Numbers;
 
 // No auxiliary is numbered above this.
 const MOST_AUXILIARY: i32 = 1_000_000_000;
 
-// Why the formula layer refuses a call.
-pub(crate) fn declined(refusal: Refusal) -> Fault
-    ensures { result ≡ record { refusal = refusal; layer = Layer.Formula; place = 0 } }
-{
-    Fault {
-        refusal,
-        layer: Layer::Formula,
-        place: 0,
-    }
-}
-
-// The words of a row of a network of `n` variables.
-pub(crate) fn row_words(n: usize) -> usize
-    requires { n ≤ most_variables }
-    ensures { result ≡ row_words n }
-{
-    (2 * n).div_ceil(WORD_BITS)
-}
-
-// Whether the numbers for auxiliaries will not do.
-fn is_unfit(n: usize, first: i32, last: i32) -> bool
-    requires { n ≤ most_variables }
-    ensures { result ≡ range_unfit n (terms first last 0 0) }
-{
-    first <= n as i32 || last > MOST_AUXILIARY || last + 1 < first
-}
-
-// Refuses numbers for auxiliaries that will not do.
+// Refuses numbers for auxiliaries that will not do. Which will do depends on `n` too, so this is no `TryFrom`.
 fn check_range(n: usize, first: i32, last: i32) -> Result<Numbers, Fault>
     requires { n ≤ most_variables }
     ensures { result ≡ range_answer n (terms first last 0 0) }
 {
-    if is_unfit(n, first, last) {
-        return Err(declined(Refusal::AuxiliaryRange));
+    if first <= n as i32 || last > MOST_AUXILIARY || last + 1 < first {
+        return Err(Fault::new(Layer::Formula, Refusal::AuxiliaryRange));
     }
     Ok(Numbers {
-        first: first as u32,
-        end: (last + 1) as u32,
+        first: first.unsigned_abs(),
+        end: (last + 1).unsigned_abs(),
     })
 }
 
@@ -61,11 +33,7 @@ pub(crate) fn check_terms(n: usize, words: usize, first: i32, last: i32) -> Resu
     ensures { result ≡ terms_answer n (terms first last words 0) }
 {
     if words < 2 * n * row_words(n) {
-        return Err(Fault {
-            refusal: Refusal::WordsShort,
-            layer: Layer::Network,
-            place: 0,
-        });
+        return Err(Fault::new(Layer::Network, Refusal::WordsShort));
     }
     check_range(n, first, last)
 }
@@ -92,7 +60,7 @@ pub(crate) fn check_auxiliaries(numbers: Numbers, auxiliaries: usize) -> Result<
     ensures { result ≡ (if nat_lt numbers.end (numbers.first + auxiliaries) then Err exhausted_fault else Ok tt) }
 {
     if (numbers.end as usize) < numbers.first as usize + auxiliaries {
-        return Err(declined(Refusal::AuxiliariesExhausted));
+        return Err(Fault::new(Layer::Formula, Refusal::AuxiliariesExhausted));
     }
     Ok(())
 }
@@ -102,7 +70,7 @@ pub(crate) fn check_room(needed: usize, room: usize) -> Result<(), Fault>
     ensures { result ≡ (if nat_lt room needed then Err buffer_fault else Ok tt) }
 {
     if room < needed {
-        return Err(declined(Refusal::BufferShort));
+        return Err(Fault::new(Layer::Formula, Refusal::BufferShort));
     }
     Ok(())
 }

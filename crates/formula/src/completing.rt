@@ -1,102 +1,76 @@
 // Puts the values of the auxiliaries that go with values of the original variables, one part of the cover after another.
-ghost use Rattle.std.specs.Prelude.{◌≡◌, ℕ, ◌+◌, ◌*◌, ◌<◌, ◌≤◌, List, map, length, ℤ};
+ghost use Rattle.std.specs.Prelude.{◌≡◌, ◌*◌, ◌≤◌, map, length, ℤ};
+ghost use Rattle.std.specs.List.{All};
 ghost use Rattle.logic.specs.Literal.{Literal};
-ghost use Rattle.encoder_theory.specs.Members.{member};
+ghost use Rattle.logic.specs.Clause.{In};
 ghost use Rattle.encoder_theory.specs.Meaning.{most_members};
-ghost use Rattle.encoder_theory.specs.Buffer.{byte, with_block};
-ghost use Rattle.network_theory.specs.Layout.{row_words};
-ghost use Rattle.network_theory.specs.Calls.{most_variables};
-ghost use Rattle.cover_theory.specs.Parts.{Part as CoverPart, Cover as PartsAndRest, Sound};
-ghost use Rattle.cover_theory.specs.Lies.{conflicts_in};
-ghost use Rattle.cover_theory.specs.Rows.{Fit};
-ghost use Rattle.formula_theory.specs.Writing.{chosen, true_place, part_values, part_auxiliaries, values_from};
-ghost use Rattle.formula_theory.specs.Outcome.{assignment_of};
-ghost use Rattle.writing_theory.specs.Listed.{read_part, ends, Listed};
-ghost use Rattle.writing_theory.specs.Completing.{Roomy, completed_answer, completed_leaves};
+ghost use Rattle.encoder_theory.specs.Buffer.{byte};
+ghost use Rattle.filling.specs.Filled.{after};
+ghost use Rattle.filling.specs.Views.{filled};
+ghost use Rattle.cover.specs.Walk.{end_of};
+ghost use Rattle.cover_theory.specs.Parts.{Part as CoverPart, Sound};
+ghost use Rattle.formula_theory.specs.Writing.{chosen, true_place, part_values, part_auxiliaries, over_parts, values_from};
+ghost use Rattle.formula_theory.specs.Outcome.{assignment_of, kept_if_refused};
+ghost use Rattle.writing_theory.specs.Listed.{read_part, parts_of, Listed};
+ghost use Rattle.writing_theory.specs.Completing.{broken, late_complete, completed_answer, put_values};
+ghost use Rattle.cover.specs.Views.{rel_of};
 
 use crate::broken::check_unbroken;
 use crate::checks::{check_auxiliaries, check_room};
-use crate::inner::put_values;
-use crate::parts::{add_up, end_of, is_shorter, part_size, read_part};
+use crate::chosen::Chosen;
+use crate::parts::add_up;
 use crate::values::is_true;
-use cover::Part;
-use encoder::Encoder;
+use cover::{Part, Parts, Rows};
+use encoder::{Encoder, append_values};
 use fault::Fault;
-use pairwise::Pairwise;
+use filling::Filling;
 use writing_theory::Numbers;
 
 // The place of the first true literal, if one is true.
 fn true_place(values: &[u8], literals: &[i32]) -> Option<usize>
-    requires { (i : ℕ) → i < length literals.now → Literal (length values.now) (member literals.now i) }
+    requires { All (Literal (length values.now)) literals.now }
     ensures { result ≡ true_place (assignment_of values.now) literals.now }
 {
-    for i in 0..literals.len() {
-        if is_true(values, literals[i]) {
-            return Some(i);
-        }
-    }
-    None
+    literals.iter().position(|a| is_true(values, *a))
 }
 
-// Puts the values of a clique's auxiliaries from the byte `at` on, by the encoder that it uses.
-fn put_clique<E: Encoder>(encoder: &E, values: &[u8], members: &[i32], at: usize, out: &mut [u8])
+// Puts the values of a clique's auxiliaries next, by the encoder that it uses.
+fn put_clique<E: Encoder>(encoder: &E, values: &[u8], members: &[i32], out: &mut Filling<u8>)
     requires few { length members.now ≤ most_members }
-    requires literals { (i : ℕ) → i < length members.now → Literal (length values.now) (member members.now i) }
-    requires room { at + (chosen (E.Encoder.meaning encoder.now) (length members.now)).auxiliaries (length members.now) ≤ length out.old }
-    ensures { out.new ≡ with_block out.old at (map byte ((chosen (E.Encoder.meaning encoder.now) (length members.now)
+    requires literals { All (Literal (length values.now)) members.now }
+    requires room { (chosen (E.meaning encoder.now) (length members.now)).auxiliaries (length members.now) ≤ length (filled out.old).rest }
+    ensures { filled out.new ≡ after (filled out.old) (map byte ((chosen (E.meaning encoder.now) (length members.now)
         ).values (length members.now) (true_place (assignment_of values.now) members.now))) }
 {
-    let place = true_place(values, members);
-    if is_shorter(encoder, members.len()) {
-        put_values(encoder, members.len(), place, at, out);
-    } else {
-        put_values(&Pairwise, members.len(), place, at, out);
-    }
+    let encoder = Chosen::among(encoder, members.len());
+    append_values(&encoder, members.len(), true_place(values, members), out).unwrap();
 }
 
-// Puts the values of a part's auxiliaries from the byte `at` on.
-fn put_part<E: Encoder>(
-    encoder: &E,
-    values: &[u8],
-    list: &[i32],
-    part: Part,
-    at: usize,
-    out: &mut [u8],
-)
-    requires within { ends part ≤ length list.now }
+// Puts the values of the auxiliaries of a part of the list next.
+fn put_part<E: Encoder>(encoder: &E, values: &[u8], list: &[i32], part: Part, out: &mut Filling<u8>)
+    requires within { end_of part ≤ length list.now }
     requires sound { Sound (length values.now) (read_part list.now part) }
-    requires room { at + part_auxiliaries (E.Encoder.meaning encoder.now) (read_part list.now part) ≤ length out.old }
-    ensures { out.new ≡ with_block out.old at
-        (map byte (part_values (E.Encoder.meaning encoder.now) (assignment_of values.now) (read_part list.now part))) }
+    requires room { part_auxiliaries (E.meaning encoder.now) (read_part list.now part) ≤ length (filled out.old).rest }
+    ensures { filled out.new ≡ after (filled out.old)
+        (map byte (part_values (E.meaning encoder.now) (assignment_of values.now) (read_part list.now part))) }
 {
     match part {
-        Part::Clique { at: place, size } => {
-            put_clique(encoder, values, &list[place..place + size], at, out);
-        }
-        Part::Biclique {
-            at: place,
-            left,
-            ..
-        } => {
-            out[at] = true_place(values, &list[place..place + left]).is_some() as u8;
+        Part::Clique { at, size } => put_clique(encoder, values, &list[at..at + size], out),
+        Part::Biclique { at, left, .. } => {
+            let place = true_place(values, &list[at..at + left]);
+            out.push(place.is_some() as u8)
         }
     }
 }
 
-// Puts the values of all parts' auxiliaries at the start of `out`.
-fn put_parts<E: Encoder>(encoder: &E, values: &[u8], list: &[i32], out: &mut [u8])
-    requires { (Ps : List (CoverPart ℤ)) × Roomy (length values.now) (E.Encoder.meaning encoder.now) Ps list.now (length out.old) }
-    ensures { (Ps : List (CoverPart ℤ)) → Roomy (length values.now) (E.Encoder.meaning encoder.now) Ps list.now (length out.old)
-        → out.new ≡ with_block out.old 0 (map byte (values_from (E.Encoder.meaning encoder.now) (assignment_of values.now) Ps)) }
+// Puts the values of all parts' auxiliaries next.
+fn put_parts<E: Encoder>(encoder: &E, values: &[u8], list: &[i32], out: &mut Filling<u8>)
+    requires sound { (P : CoverPart ℤ) → In P (parts_of list.now) → Sound (length values.now) P }
+    requires room { over_parts (part_auxiliaries (E.meaning encoder.now)) (parts_of list.now) ≤ length (filled out.old).rest }
+    ensures { filled out.new ≡ after (filled out.old) (map byte (values_from (E.meaning encoder.now) (assignment_of values.now) (parts_of list.now))) }
 {
-    let mut at = 0;
-    let mut spot = 0;
-    while at < list.len() {
-        let part = read_part(list, at);
-        let size = part_size(encoder, part);
-        put_part(encoder, values, list, part, spot, out);
-        spot += size.auxiliaries;
-        at = end_of(part);
+    for part in Parts::new(list) {
+        put_part(encoder, values, list, part, out);
     }
 }
 
@@ -104,21 +78,19 @@ fn put_parts<E: Encoder>(encoder: &E, values: &[u8], list: &[i32], out: &mut [u8
 fn check_completion<E: Encoder>(
     encoder: &E,
     numbers: Numbers,
-    words: &[u64],
+    rows: &Rows,
     values: &[u8],
     list: &[i32],
     room: usize,
 ) -> Result<usize, Fault>
-    requires fit { (Fit (2 * length values.now) (row_words (length values.now)) words.now) × (length values.now ≤ most_variables) }
-    requires listed { (C : PartsAndRest) × Listed (length values.now) (E.Encoder.meaning encoder.now) C.parts list.now }
-    ensures { (C : PartsAndRest) → Listed (length values.now) (E.Encoder.meaning encoder.now) C.parts list.now
-        → result ≡ completed_answer (length values.now) (conflicts_in (length values.now) words.now)
-        (E.Encoder.meaning encoder.now) C numbers values.now room }
+    requires listed { Listed (length values.now) (E.meaning encoder.now) (parts_of list.now) }
+    requires fit { rows.now.count ≡ 2 * length values.now }
+    ensures { result ≡ completed_answer (over_parts (part_auxiliaries (E.meaning encoder.now)) (parts_of list.now)) numbers room (broken rows.now.count (rel_of rows.now) (assignment_of values.now)) }
 {
     let auxiliaries = add_up(encoder, list).auxiliaries;
     check_auxiliaries(numbers, auxiliaries)?;
     check_room(auxiliaries, room)?;
-    check_unbroken(words, values.len(), values)?;
+    check_unbroken(rows, values)?;
     Ok(auxiliaries)
 }
 
@@ -126,21 +98,17 @@ fn check_completion<E: Encoder>(
 pub(crate) fn complete_covered<E: Encoder>(
     encoder: &E,
     numbers: Numbers,
-    words: &[u64],
+    rows: &Rows,
     values: &[u8],
     list: &[i32],
     out: &mut [u8],
 ) -> Result<usize, Fault>
-    requires fit { (Fit (2 * length values.now) (row_words (length values.now)) words.now) × (length values.now ≤ most_variables) }
-    requires listed { (C : PartsAndRest) × Listed (length values.now) (E.Encoder.meaning encoder.now) C.parts list.now }
-    ensures answer { (C : PartsAndRest) → Listed (length values.now) (E.Encoder.meaning encoder.now) C.parts list.now
-        → result ≡ completed_answer (length values.now) (conflicts_in (length values.now) words.now)
-        (E.Encoder.meaning encoder.now) C numbers values.now (length out.old) }
-    ensures leaves { (C : PartsAndRest) → Listed (length values.now) (E.Encoder.meaning encoder.now) C.parts list.now
-        → out.new ≡ completed_leaves (length values.now) (conflicts_in (length values.now) words.now)
-        (E.Encoder.meaning encoder.now) C numbers values.now out.old }
+    requires listed { Listed (length values.now) (E.meaning encoder.now) (parts_of list.now) }
+    requires fit { rows.now.count ≡ 2 * length values.now }
+    ensures answer { result ≡ completed_answer (over_parts (part_auxiliaries (E.meaning encoder.now)) (parts_of list.now)) numbers (length out.old) (broken rows.now.count (rel_of rows.now) (assignment_of values.now)) }
+    ensures leaves { out.new ≡ kept_if_refused (late_complete (over_parts (part_auxiliaries (E.meaning encoder.now)) (parts_of list.now)) numbers (length out.old) (broken rows.now.count (rel_of rows.now) (assignment_of values.now))) (put_values (E.meaning encoder.now) (parts_of list.now) (assignment_of values.now) out.old) out.old }
 {
-    let auxiliaries = check_completion(encoder, numbers, words, values, list, out.len())?;
-    put_parts(encoder, values, list, out);
+    let auxiliaries = check_completion(encoder, numbers, rows, values, list, out.len())?;
+    put_parts(encoder, values, list, &mut Filling::new(out));
     Ok(auxiliaries)
 }

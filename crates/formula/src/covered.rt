@@ -1,16 +1,19 @@
-// Measures and writes once the cover stands: its parts in the list, what remains in the work words.
-ghost use Rattle.std.specs.Prelude.{◌≡◌, ◌<◌, ◌≤◌, length};
+// Measures and writes once the cover stands: its parts in the list, what remains in rows of the work words.
+ghost use Rattle.std.specs.Prelude.{◌≡◌, ℕ, ◌+◌, ◌*◌, ◌<◌, ◌≤◌, length};
 ghost use Rattle.encoder_theory.specs.Meaning.{last_end};
-ghost use Rattle.network_theory.specs.Calls.{most_variables};
-ghost use Rattle.cover_theory.specs.Parts.{Cover as PartsAndRest};
-ghost use Rattle.writing_theory.specs.Covering.{Covering, Ready, measured, written_answer, written_leaves, put};
+ghost use Rattle.formula_theory.specs.Writing.{clause_count};
+ghost use Rattle.writing_theory.specs.Listed.{Writable, parts_of};
+ghost use Rattle.writing_theory.specs.Covering.{Covering, cover_in, size_in, measured, written_answer, written_leaves, put};
+ghost use Rattle.formula.specs.Rows.{remaining_in};
 
-use crate::checks::{check_auxiliaries, check_room, row_words};
+use crate::checks::{check_auxiliaries, check_room};
 use crate::clauses::put_parts;
 use crate::parts::add_up;
 use crate::remaining::put_remaining;
+use cover::Rows;
 use encoder::Encoder;
 use fault::Fault;
+use filling::Filling;
 use formula_theory::Size;
 use writing_theory::Numbers;
 
@@ -19,12 +22,10 @@ pub(crate) fn measure_covered<E: Encoder>(
     encoder: &E,
     numbers: Numbers,
     list: &[i32],
-    work: &[u64],
-    n: usize,
     remaining: usize,
 ) -> Result<Size, Fault>
-    requires { (C : PartsAndRest) × Covering n (E.Encoder.meaning encoder.now) C list.now work.now remaining }
-    ensures { (C : PartsAndRest) → Covering n (E.Encoder.meaning encoder.now) C list.now work.now remaining → result ≡ measured (E.Encoder.meaning encoder.now) C numbers }
+    requires { (n : ℕ) × Covering n (E.meaning encoder.now) list.now remaining }
+    ensures { result ≡ measured (size_in (E.meaning encoder.now) list.now remaining) numbers }
 {
     let parts = add_up(encoder, list);
     check_auxiliaries(numbers, parts.auxiliaries)?;
@@ -35,21 +36,14 @@ pub(crate) fn measure_covered<E: Encoder>(
 }
 
 // Writes the clauses of the parts and of the conflicts that remain.
-fn put_covered<E: Encoder>(
-    encoder: &E,
-    first: u32,
-    list: &[i32],
-    work: &[u64],
-    n: usize,
-    out: &mut [i32],
-)
-    requires few { n ≤ most_variables }
-    requires ready { (C : PartsAndRest) × Ready n (E.Encoder.meaning encoder.now) C list.now work.now first (length out.old) }
-    ensures { (C : PartsAndRest) → Ready n (E.Encoder.meaning encoder.now) C list.now work.now first (length out.old) → out.new ≡ put (E.Encoder.meaning encoder.now) C first out.old }
+fn put_covered<E: Encoder>(encoder: &E, first: u32, list: &[i32], rows: &Rows, out: &mut [i32])
+    requires ready { (n : ℕ) × Writable n (E.meaning encoder.now) (parts_of list.now) first }
+    requires room { 2 * clause_count (E.meaning encoder.now) (cover_in list.now (remaining_in rows.now)) ≤ length out.old }
+    ensures { out.new ≡ put (E.meaning encoder.now) (cover_in list.now (remaining_in rows.now)) first out.old }
 {
-    let at = 2 * add_up(encoder, list).clauses;
-    put_parts(encoder, list, first, out);
-    put_remaining(work, row_words(n), 2 * n, at, out);
+    let mut out = Filling::new(out);
+    put_parts(encoder, list, first, &mut out);
+    put_remaining(rows, &mut out);
 }
 
 // Writes the cover's clauses at the start of `out`, unless the auxiliaries or the clauses are too many.
@@ -57,18 +51,18 @@ pub(crate) fn write_covered<E: Encoder>(
     encoder: &E,
     numbers: Numbers,
     list: &[i32],
-    work: &[u64],
-    n: usize,
+    rows: &Rows,
     remaining: usize,
     out: &mut [i32],
 ) -> Result<Size, Fault>
-    requires few { (n ≤ most_variables) × ((n < numbers.first) × (numbers.end ≤ last_end)) }
-    requires covering { (C : PartsAndRest) × Covering n (E.Encoder.meaning encoder.now) C list.now work.now remaining }
-    ensures answer { (C : PartsAndRest) → Covering n (E.Encoder.meaning encoder.now) C list.now work.now remaining → result ≡ written_answer (E.Encoder.meaning encoder.now) C numbers (length out.old) }
-    ensures leaves { (C : PartsAndRest) → Covering n (E.Encoder.meaning encoder.now) C list.now work.now remaining → out.new ≡ written_leaves (E.Encoder.meaning encoder.now) C numbers out.old }
+    requires covering { (n : ℕ) × (n < numbers.first) × Covering n (E.meaning encoder.now) list.now remaining }
+    requires numbers { numbers.end ≤ last_end }
+    requires counted { remaining ≡ length (remaining_in rows.now) }
+    ensures answer { result ≡ written_answer (size_in (E.meaning encoder.now) list.now remaining) numbers (length out.old) }
+    ensures leaves { out.new ≡ written_leaves (E.meaning encoder.now) (cover_in list.now (remaining_in rows.now)) (size_in (E.meaning encoder.now) list.now remaining) numbers out.old }
 {
-    let size = measure_covered(encoder, numbers, list, work, n, remaining)?;
+    let size = measure_covered(encoder, numbers, list, remaining)?;
     check_room(2 * size.clauses, out.len())?;
-    put_covered(encoder, numbers.first, list, work, n, out);
+    put_covered(encoder, numbers.first, list, rows, out);
     Ok(size)
 }

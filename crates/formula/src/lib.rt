@@ -11,23 +11,20 @@
 
 mod broken;
 mod checks;
+mod chosen;
 mod clauses;
 mod completing;
 mod covered;
-mod inner;
 mod parts;
 mod remaining;
 mod rows;
 mod values;
 
 ghost use Rattle.std.specs.Prelude.{◌≡◌, length};
-ghost use Rattle.cover.specs.Outcome.{cover_of_net};
-ghost use Rattle.formula_theory.specs.Outcome.{terms, measure_answer, write_answer, write_leaves, early_refused, work_after, list_after};
-ghost use Rattle.writing_theory.specs.Covering.{covered_words};
 ghost use Rattle.network.specs.Views.{net_of};
 ghost use Rattle.cover_theory.specs.Rule.{cover_of};
 ghost use Rattle.formula_theory.specs.Promise.{EveryRun, AnyOther, EveryCompletion};
-ghost use Rattle.writing_theory.specs.Contract.{lent, answer_of_complete, words_completed, list_completed, bytes_left};
+ghost use Rattle.writing_theory.specs.Contract.{lent, answer_of_measure, answer_of_write, answer_of_complete, words_left, list_left, words_completed, list_completed, clauses_left, bytes_left};
 
 use checks::{check_terms, check_valued};
 use completing::complete_covered;
@@ -37,6 +34,7 @@ use encoder::Encoder;
 use fault::Fault;
 pub use formula_theory::Size;
 use network::Sealed;
+use rows::rows_of;
 
 // Covers the network, and tells how many clauses and auxiliaries a writing takes.
 pub fn measure<E: Encoder>(
@@ -47,21 +45,16 @@ pub fn measure<E: Encoder>(
     work: &mut [u64],
     list: &mut [i32],
 ) -> Result<Size, Fault>
-    ensures answer { result ≡ measure_answer (net_of net.now.matrix).variables (cover_of_net (net_of net.now.matrix)) (E.Encoder.meaning encoder.now) (terms first last (length work.old) (length list.old)) }
-    ensures words { work.new ≡ work_after (early_refused (net_of net.now.matrix).variables (terms first last (length work.old) (length list.old))) (net_of net.now.matrix).variables (cover_of_net (net_of net.now.matrix)) (terms first last (length work.old) (length list.old)) work.old (covered_words (net_of net.now.matrix) work.old) }
-    ensures list { list.new ≡ list_after (early_refused (net_of net.now.matrix).variables (terms first last (length work.old) (length list.old))) (cover_of_net (net_of net.now.matrix)) (terms first last (length work.old) (length list.old)) list.old }
+    ensures answer { result ≡ answer_of_measure (net_of net.now.matrix) (E.meaning encoder.now)
+        (lent first last work.old list.old) }
+    ensures words { work.new ≡ words_left (net_of net.now.matrix)
+        (lent first last work.old list.old) work.old }
+    ensures list { list.new ≡ list_left (net_of net.now.matrix)
+        (lent first last work.old list.old) list.old }
 {
-    let n = net.variables();
-    let numbers = check_terms(n, work.len(), first, last)?;
+    let numbers = check_terms(net.variables(), work.len(), first, last)?;
     let covered = cover(net, work, list)?;
-    measure_covered(
-        encoder,
-        numbers,
-        &list[..covered.used],
-        work,
-        n,
-        covered.remaining,
-    )
+    measure_covered(encoder, numbers, &list[..covered.used], covered.remaining)
 }
 
 // Covers the network, writes its clauses at the start of `out`, and answers how many clauses and auxiliaries they take.
@@ -76,12 +69,18 @@ pub fn write<E: Encoder>(
     list: &mut [i32],
     out: &mut [i32],
 ) -> Result<Size, Fault>
-    ensures answer { result ≡ write_answer (net_of net.now.matrix).variables (cover_of_net (net_of net.now.matrix)) (E.Encoder.meaning encoder.now) (terms first last (length work.old) (length list.old)) (length out.old) }
-    ensures words { work.new ≡ work_after (early_refused (net_of net.now.matrix).variables (terms first last (length work.old) (length list.old))) (net_of net.now.matrix).variables (cover_of_net (net_of net.now.matrix)) (terms first last (length work.old) (length list.old)) work.old (covered_words (net_of net.now.matrix) work.old) }
-    ensures list { list.new ≡ list_after (early_refused (net_of net.now.matrix).variables (terms first last (length work.old) (length list.old))) (cover_of_net (net_of net.now.matrix)) (terms first last (length work.old) (length list.old)) list.old }
-    ensures clauses { out.new ≡ write_leaves (net_of net.now.matrix).variables (cover_of_net (net_of net.now.matrix)) (E.Encoder.meaning encoder.now) (terms first last (length work.old) (length list.old)) out.old }
-    ensures every_run { EveryRun cover_of (net_of net.now.matrix) (E.Encoder.meaning encoder.now) (terms first last (length work.old) (length list.old)) (length out.old) out.new result }
-    ensures any_other { AnyOther cover_of (net_of net.now.matrix) (E.Encoder.meaning encoder.now) (terms first last (length work.old) (length list.old)) (length out.old) out.new result }
+    ensures answer { result ≡ answer_of_write (net_of net.now.matrix) (E.meaning encoder.now)
+        (lent first last work.old list.old) (length out.old) }
+    ensures words { work.new ≡ words_left (net_of net.now.matrix)
+        (lent first last work.old list.old) work.old }
+    ensures list { list.new ≡ list_left (net_of net.now.matrix)
+        (lent first last work.old list.old) list.old }
+    ensures clauses { out.new ≡ clauses_left (net_of net.now.matrix) (E.meaning encoder.now)
+        (lent first last work.old list.old) out.old }
+    ensures every_run { EveryRun cover_of (net_of net.now.matrix) (E.meaning encoder.now)
+        (lent first last work.old list.old) (length out.old) out.new result }
+    ensures any_other { AnyOther cover_of (net_of net.now.matrix) (E.meaning encoder.now)
+        (lent first last work.old list.old) (length out.old) out.new result }
 {
     let n = net.variables();
     let numbers = check_terms(n, work.len(), first, last)?;
@@ -90,8 +89,7 @@ pub fn write<E: Encoder>(
         encoder,
         numbers,
         &list[..covered.used],
-        work,
-        n,
+        &rows_of(n, work),
         covered.remaining,
         out,
     )
@@ -121,12 +119,13 @@ pub fn complete<E: Encoder>(
     ensures completes { EveryCompletion cover_of (net_of net.now.matrix) (E.meaning encoder.now)
         (lent first last work.old list.old) values.now (length out.old) out.new result }
 {
-    let numbers = check_valued(net.variables(), work.len(), first, last, values)?;
+    let n = net.variables();
+    let numbers = check_valued(n, work.len(), first, last, values)?;
     let covered = cover(net, work, list)?;
     complete_covered(
         encoder,
         numbers,
-        net.words(),
+        &rows_of(n, net.words()),
         values,
         &list[..covered.used],
         out,

@@ -1,63 +1,47 @@
 // Writes the clauses of the conflicts that remain.
-ghost use Rattle.std.specs.Prelude.{◌≡◌, ◌+◌, ◌*◌, ◌<◌, ◌≤◌, length};
-ghost use Rattle.logic.specs.Literal.{variable, literal};
-ghost use Rattle.logic.specs.Clause.{against, flat};
+ghost use Rattle.std.specs.Prelude.{◌≡◌, ◌+◌, ◌-◌, ◌*◌, ◌<◌, ◌≤◌, length};
+ghost use Rattle.logic.specs.Literal.{literal, variable};
+ghost use Rattle.logic.specs.Clause.{flat};
 ghost use Rattle.network_theory.specs.Calls.{most_variables};
-ghost use Rattle.cover_theory.specs.Rule.{pairs_from};
-ghost use Rattle.cover_theory.specs.Rows.{conflicts, Fit};
+ghost use Rattle.filling.specs.Filled.{after};
+ghost use Rattle.filling.specs.Views.{filled};
+ghost use Rattle.cover_theory.specs.Rule.{those};
 ghost use Rattle.formula_theory.specs.Writing.{conflict_clauses};
-ghost use Rattle.encoder_theory.specs.Buffer.{with_block};
 ghost use Rattle.writing_theory.specs.Remaining.{row_clauses};
+ghost use Rattle.formula.specs.Rows.{remaining_in};
+ghost use Rattle.cover.specs.Views.{rel_of};
 
-use crate::rows::first_from;
-use encoder::put_clause;
+use cover::Rows;
+use encoder::push_clause;
+use filling::Filling;
 use logic::literal_at;
 
-// The literal of an index.
+// The literal of an index of a network. Cover has the same line: a public one would ask something of its callers.
 pub(crate) fn literal_of(u: usize) -> i32
     requires { u < 2 * most_variables }
     ensures literal { result ≡ literal u }
     ensures small { variable result ≤ most_variables }
 {
-    match literal_at(u) {
-        Some(a) => a,
-        None => unreachable(),
+    literal_at(u).unwrap()
+}
+
+// Puts the clauses of the conflicts of u with the literals after it next.
+fn put_row(rows: &Rows, u: usize, out: &mut Filling<i32>)
+    requires within { u < rows.now.count }
+    requires room { 2 * length (those (rel_of rows.now u) (rows.now.count - (u + 1)) (u + 1)) ≤ length (filled out.old).rest }
+    ensures { filled out.new ≡ after (filled out.old) (flat (row_clauses u (those (rel_of rows.now u) (rows.now.count - (u + 1)) (u + 1)))) }
+{
+    for w in rows.after(u) {
+        push_clause(out, (-literal_of(u), -literal_of(w)));
     }
 }
 
-// The clause of the conflict of two indices.
-fn conflict_clause(u: usize, w: usize) -> (i32, i32)
-    requires { (u < 2 * most_variables) × (w < 2 * most_variables) }
-    ensures { result ≡ against (literal u) (literal w) }
+// Puts the clauses of all conflicts in the rows next, by the one literal and then by the other.
+pub(crate) fn put_remaining(rows: &Rows, out: &mut Filling<i32>)
+    requires { 2 * length (remaining_in rows.now) ≤ length (filled out.old).rest }
+    ensures { filled out.new ≡ after (filled out.old) (flat (conflict_clauses (remaining_in rows.now))) }
 {
-    (-literal_of(u), -literal_of(w))
-}
-
-// Writes the clauses of the conflicts of u with the literals after it from the number `at` on, and answers where they end.
-fn put_row(words: &[u64], rows: usize, count: usize, u: usize, at: usize, out: &mut [i32]) -> usize
-    requires fit { (Fit count rows words.now) × ((u < count) × (count ≤ 2 * most_variables)) }
-    requires room { at + 2 * length (row_clauses count (conflicts count rows words.now) u (u + 1)) ≤ length out.old }
-    ensures end { result ≡ at + 2 * length (row_clauses count (conflicts count rows words.now) u (u + 1)) }
-    ensures out { out.new ≡ with_block out.old at (flat (row_clauses count (conflicts count rows words.now) u (u + 1))) }
-{
-    let mut spot = at;
-    let mut from = u + 1;
-    while let Some(w) = first_from(words, rows, u, from) {
-        put_clause(out, spot, conflict_clause(u, w));
-        spot += 2;
-        from = w + 1;
-    }
-    spot
-}
-
-// Writes the clauses of all conflicts in the words from the number `at` on, by the one literal and then by the other.
-pub(crate) fn put_remaining(words: &[u64], rows: usize, count: usize, at: usize, out: &mut [i32])
-    requires fit { (Fit count rows words.now) × (count ≤ 2 * most_variables) }
-    requires room { at + 2 * length (pairs_from count (conflicts count rows words.now) count 0) ≤ length out.old }
-    ensures { out.new ≡ with_block out.old at (flat (conflict_clauses (pairs_from count (conflicts count rows words.now) count 0))) }
-{
-    let mut spot = at;
-    for u in 0..count {
-        spot = put_row(words, rows, count, u, spot, out);
+    for u in 0..rows.count {
+        put_row(rows, u, out);
     }
 }

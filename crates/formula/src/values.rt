@@ -4,8 +4,7 @@ ghost use Rattle.logic.specs.Literal.{Literal};
 ghost use Rattle.logic.specs.Clause.{holds};
 ghost use Rattle.formula_theory.specs.Outcome.{are_bits, values_unfit, values_fault, assignment_of};
 
-use crate::checks::declined;
-use fault::{Fault, Refusal};
+use fault::{Fault, Layer, Refusal};
 
 // The byte of a true variable.
 const TRUE: u8 = 1;
@@ -14,12 +13,7 @@ const TRUE: u8 = 1;
 fn are_bits(values: &[u8]) -> bool
     ensures { result ≡ are_bits values.now }
 {
-    for value in values {
-        if *value > TRUE {
-            return false;
-        }
-    }
-    true
+    values.iter().all(|value| *value <= TRUE)
 }
 
 // Refuses values other than a 0 or a 1 for each of `n` variables.
@@ -27,7 +21,7 @@ pub(crate) fn check_values(n: usize, values: &[u8]) -> Result<(), Fault>
     ensures { result ≡ (if values_unfit n values.now then Err values_fault else Ok tt) }
 {
     if values.len() != n || !are_bits(values) {
-        return Err(declined(Refusal::UnfitValues));
+        return Err(Fault::new(Layer::Formula, Refusal::UnfitValues));
     }
     Ok(())
 }

@@ -35,11 +35,7 @@ fn fill(net: &mut Open) {
 
 // A fault of the formula layer.
 fn declined(refusal: Refusal) -> Fault {
-    Fault {
-        refusal,
-        layer: Layer::Formula,
-        place: 0,
-    }
+    Fault::new(Layer::Formula, refusal)
 }
 
 // Whether a literal is true, with the auxiliaries numbered from `first` on.
@@ -58,11 +54,8 @@ fn is_true(values: &[u8], bytes: &[u8], first: usize, a: i32) -> bool {
 // Checks that each of so many clauses has a true literal.
 fn are_met(rt: &impl Abort, out: &[i32; 80], clauses: usize, bytes: &[u8], first: usize) {
     assert!(rt; clauses < 40);
-    for i in 0..clauses {
-        assert!(rt;
-            is_true(&VALUES, bytes, first, out[2 * i])
-                || is_true(&VALUES, bytes, first, out[2 * i + 1])
-        );
+    for clause in out[..2 * clauses].chunks_exact(2) {
+        assert!(rt; clause.iter().any(|a| is_true(&VALUES, bytes, first, *a)));
     }
     assert!(rt; out[2 * clauses] == 7);
 }
@@ -152,11 +145,7 @@ fn the_cover_is_refused(rt: HostRuntime) {
     let mut net = Open::open(16, &mut words);
     fill(&mut net);
     let net = net.seal();
-    let short = Fault {
-        refusal: Refusal::WordsShort,
-        layer: Layer::Network,
-        place: 0,
-    };
+    let short = Fault::new(Layer::Network, Refusal::WordsShort);
     let mut few = [5u64; 31];
     let mut list = [5i32; 15];
     both_declined(&rt, &net, 0, &mut few, &mut list, 4, short);
@@ -165,11 +154,7 @@ fn the_cover_is_refused(rt: HostRuntime) {
         Err(short)
     );
     assert!(rt; few == [5; 31] && list == [5; 15]);
-    let full = Fault {
-        refusal: Refusal::PartListShort,
-        layer: Layer::Cover,
-        place: 0,
-    };
+    let full = Fault::new(Layer::Cover, Refusal::PartListShort);
     let mut work = [5u64; 33];
     both_declined(&rt, &net, LAST, &mut work, &mut list, 0, full);
     assert!(rt; list == [0; 15] && work[0] == 0 && work[31] == 0 && work[32] == 5);

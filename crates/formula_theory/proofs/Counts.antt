@@ -12,7 +12,7 @@ use Rattle.formula_theory.proofs.Listed.{length_map}
 use Rattle.formula_theory.proofs.Pieces.{clique_admitted, chosen_lawful}
 
 module _ (M : Meaning) (law : Lawful M) (n : ℕ) where
-  length_part : (z : ℕ) → n < z → (P : Part ℤ) → Sound n P → z + part_auxiliaries M P ≤ last_end → length (part_clauses M P z) ≡ part_size M P
+  pub length_part : (z : ℕ) → n < z → (P : Part ℤ) → Sound n P → z + part_auxiliaries M P ≤ last_end → length (part_clauses M P z) ≡ part_size M P
   length_part z w (clique xs) s f = (chosen_lawful M law (length xs)).well_formed.counted xs z (clique_admitted M n z xs s w f)
   length_part z w (biclique xs ys) s f =
       let a = length_map (λ a. implication a (pos z)) xs in

@@ -105,7 +105,7 @@ values_taken s first vs k l =
     ∙ ap (λ n. get_or vs n false) e
 
 module _ (M : Meaning) (law : Lawful M) (n : ℕ) where
-  length_part : (s : Assignment) (P : Part ℤ) → Sound n P → length (part_values M s P) ≡ part_auxiliaries M P
+  pub length_part : (s : Assignment) (P : Part ℤ) → Sound n P → length (part_values M s P) ≡ part_auxiliaries M P
   length_part s (clique xs) o = (chosen_lawful M law (length xs)).well_formed.valued (length xs) (true_place s xs) o.3 (within_true s xs)
   length_part s (biclique xs ys) o = refl
 

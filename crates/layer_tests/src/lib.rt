@@ -46,8 +46,7 @@ mod tests {
 
     // Each row: numbers of members, of clauses and of auxiliaries; 257 members are too many.
     fn has_sizes<E: Encoder>(rt: &impl Abort, e: &E, table: &[(usize, usize, usize)]) {
-        for row in table {
-            let (members, clauses, auxiliaries) = *row;
+        for &(members, clauses, auxiliaries) in table {
             assert_eq!(rt; e.clauses(members), Ok(clauses));
             assert_eq!(rt; e.auxiliaries(members), Ok(auxiliaries));
         }
@@ -158,9 +157,7 @@ mod tests {
         assert!(rt; n <= 78);
         let mut out = [9; 80];
         assert_eq!(rt; e.write(&MEMBERS, 8, &mut out[0..n + 2]), Ok(()));
-        for i in 0..n {
-            assert_eq!(rt; out[i], clauses[i]);
-        }
+        assert_eq!(rt; &out[..n], clauses);
         assert_eq!(rt; (out[n], out[n + 1]), (9, 9));
         declines(rt, e, n.saturating_sub(1));
     }
@@ -210,9 +207,7 @@ mod tests {
         assert!(rt; n <= 30);
         let mut out = [9; 32];
         assert_eq!(rt; e.values(members, place, &mut out[0..n + 1]), Ok(()));
-        for i in 0..n {
-            assert_eq!(rt; out[i], values[i]);
-        }
+        assert_eq!(rt; &out[..n], values);
         assert_eq!(rt; out[n], 9);
     }
 

@@ -1,5 +1,5 @@
 -- The rule forms groups, and what follows for places and sizes.
-use Rattle.std.proofs.Common.{◌≡◌, ℕ, zero, suc, ◌+◌, ◌-◌, ◌*◌, ◌<◌, ◌≤◌, true, false, cond, eqb, ltb, leb, ◌⊎◌, Some, None, Option, sym, refl, ap, ◌∙◌, subst, inl, inr, ⊎_elim, mul-le-mul_right, mod-lt, suc-mul, div-add-mod', arith}
+use Rattle.std.proofs.Common.{◌≡◌, ℕ, zero, suc, ◌+◌, ◌-◌, ◌*◌, ◌/◌, ◌<◌, ◌≤◌, true, false, cond, eqb, ltb, leb, ◌⊎◌, Some, None, Option, sym, refl, ap, ◌∙◌, subst, inl, inr, ⊎_elim, mul-le-mul_right, mod-lt, suc-mul, div-add-mod', arith}
 use Rattle.std.proofs.lemmas.Bool.{le-leb, lt-leb, leb-true, ltb-true, lt-ltb, eq-eqb, ne_eqb, cases_lt, cases_eq, cases_order, cond-true, cond-false, cond_both, cases_Bool, both_ways, and_from, and_parts}
 use Rattle.encoder_theory.specs.Members.{Within, at_place}
 use Rattle.layer_theory.specs.Grouping.{groups, start, Formed, size, sum, group_of, group_place, lies, place_in}
@@ -46,16 +46,6 @@ module _ (k m n : ℕ) (s : ℕ → ℕ) (r : Formed k m n s) where
 
   pub size_within : (i : ℕ) → i < n → size s i ≤ m
   size_within i l = let a = ends_within i l in omega arith
-
-  -- the sizes of the groups before a group
-  pub sizes_before : (i : ℕ) → i ≤ n → sum i (size s) ≡ s i
-  sizes_before zero l = sym r.begins
-  sizes_before (suc i) l =
-      let a = sizes_before i (omega arith) in
-      let b = r.some i (omega arith) in
-      let e : i + 1 ≡ suc i = omega arith in
-      let f = ap s e in
-      omega arith
 
   -- the group of a place
   module _ (p : ℕ) where
@@ -157,3 +147,17 @@ module _ (k m n : ℕ) (s : ℕ → ℕ) (r : Formed k m n s) where
 
   pub groups_within : n ≤ m
   groups_within = let a = begins_after n (omega arith) in let e = r.ends in omega arith
+
+-- the group of a place is the place divided by k
+pub group_of-div : (k m p : ℕ) → 1 ≤ k → p < m → group_of (groups k m) (start k m) p ≡ p / k
+group_of-div k m p one l =
+    let f = rule_forms k m one in
+    let kp : 0 < k = omega arith in
+    let e = div-add-mod' p k in
+    let r = mod-lt p kp in
+    let z = suc-mul (p / k) k in
+    let q : (p / k + 1) * k ≡ p / k * k + k = omega arith in
+    let ends = f.ends in
+    let b : p / k < groups k m =
+    ⊎_elim (λ h. h) (λ h. let g = mul-le-mul_right k h in absurd (omega arith)) (cases_lt (p / k) (groups k m)) in
+    sym (group_is k m (groups k m) (start k m) f p (p / k) b (omega arith) (omega arith))

@@ -1,9 +1,8 @@
 -- Sums and lists made number by number: bounds, one number more, and cut in two.
 use Rattle.std.proofs.Common.{◌≡◌, ℕ, zero, suc, ◌+◌, ◌-◌, ◌<◌, ◌≤◌, List, ◌++◌, length, sym, refl, ap, ◌∙◌, subst, ⊎_elim, append_assoc, arith, length-append}
-use Rattle.std.proofs.lemmas.List.{append-nil}
 use Rattle.std.proofs.lemmas.Bool.{cases_eq}
 use Rattle.encoder_theory.specs.Each.{each}
-use Rattle.encoder_theory.proofs.Each.{each_more}
+use Rattle.encoder_theory.proofs.Each.{each_more, each_last}
 use Rattle.layer_theory.specs.Grouping.{sum}
 
 pub sum_le : (f g : ℕ → ℕ) (n : ℕ) → ((i : ℕ) → i < n → f i ≤ g i) → sum n f ≤ sum n g
@@ -20,10 +19,6 @@ sum_part f i (suc n) l = ⊎_elim
 
 pub sum_more : (f : ℕ → ℕ) (i : ℕ) → sum (i + 1) f ≡ sum i f + f i
 sum_more f i = let e : i + 1 ≡ suc i = omega arith in ap (λ k. sum k f) e
-
-pub sum_below : (f : ℕ → ℕ) (i n : ℕ) → i ≤ n → sum i f ≤ sum n f
-sum_below f zero n l = omega arith
-sum_below f (suc i) n l = let a = sum_part f i n (omega arith) in omega arith
 
 module _ {X : Type 0} (f : ℕ → List X) where
   -- a list cut before the number i
@@ -44,15 +39,13 @@ module _ {X : Type 0} (f : ℕ → List X) where
       let z : 0 + i ≡ i = omega arith in
       ap (λ k. each 0 k f) e ∙ each_cut 0 i (n - i) ∙ ap (λ b. each 0 i f ++ each b (n - i) f) z ∙ ap (λ ys. each 0 i f ++ ys) (each_more f i n l)
 
-  pub each_last : (n : ℕ) → each 0 (suc n) f ≡ each 0 n f ++ f n
-  each_last n =
-      let z : suc n - (n + 1) ≡ 0 = omega arith in
-      each_at n (suc n) (omega arith) ∙ ap (λ k. each 0 n f ++ (f n ++ each (n + 1) k f)) z ∙ ap (λ ys. each 0 n f ++ ys) (append-nil (f n))
+  each_end : (n : ℕ) → each 0 (suc n) f ≡ each 0 n f ++ f n
+  each_end n = let e : suc n ≡ n + 1 = omega arith in ap (λ k. each 0 k f) e ∙ each_last f n
 
   pub length_each_sum : (w : ℕ → ℕ) (n : ℕ) → ((i : ℕ) → i < n → length (f i) ≡ w i) → length (each 0 n f) ≡ sum n w
   length_each_sum w zero h = refl
   length_each_sum w (suc n) h =
-      let e = ap length (each_last n) in
+      let e = ap length (each_end n) in
       let a = length-append (each 0 n f) (f n) in
       let r = length_each_sum w n (λ i l. h i (omega arith)) in
       let q = h n (omega arith) in

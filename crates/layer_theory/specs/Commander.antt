@@ -43,6 +43,24 @@ grouped n start G T = record {
       ++ T.values n (group_place n start t));
 }
 
+-- what the group encoder says of all groups of m members, one after another
+abbrev pub inner : ℕ → Meaning → Meaning
+inner k G = record {
+  clauses = λ m. sum (groups k m) (λ i. G.clauses (size (start k m) i));
+  auxiliaries = λ m. sum (groups k m) (λ i. G.auxiliaries (size (start k m) i));
+  list = λ xs first. each 0 (groups k (length xs)) (group_list G (start k (length xs)) xs first);
+  values = λ m t. each 0 (groups k m) (λ i. G.values (size (start k m) i) (place_in (start k m) t i));
+}
+
+-- all that stands below the top: the groups with their commanders and links
+abbrev pub below : ℕ → Meaning → Meaning
+below k G = record {
+  clauses = λ m. (inner k G).clauses m + m;
+  auxiliaries = λ m. groups k m + (inner k G).auxiliaries m;
+  list = λ xs first. (inner k G).list xs (first + groups k (length xs)) ++ links (groups k (length xs)) (start k (length xs)) xs first;
+  values = λ m t. table (groups k m) (lies (start k m) t) ++ (inner k G).values m t;
+}
+
 -- fewer than six members, or at most k, form no groups
 abbrev pub whole : ℕ → ℕ → Bool
 whole k m = nat_lt m 6 || nat_le m k

@@ -4,7 +4,6 @@
 
 mod commander;
 mod group;
-mod inner;
 mod tower;
 
 pub use commander::Commander;

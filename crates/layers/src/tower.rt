@@ -1,92 +1,77 @@
 // The tower: pairwise up to five members; above, groups of three under pairwise, whose commanders go to the tower itself.
 // Each call is a plain recursion on the number of members, which falls to its third, rounded up.
-ghost use Rattle.std.specs.Prelude.{◌≡◌, ℕ, ◌+◌, ◌*◌, ◌≤◌, map, length};
+ghost use Rattle.std.specs.Prelude.{◌≡◌, ◌*◌, ◌≤◌, map, length};
 ghost use Rattle.logic.specs.Clause.{flat};
+ghost use Rattle.filling.specs.Filled.{after};
+ghost use Rattle.filling.specs.Views.{filled};
 ghost use Rattle.encoder_theory.specs.Members.{Within};
 ghost use Rattle.encoder_theory.specs.Meaning.{Admits, most_members};
-ghost use Rattle.encoder_theory.specs.Buffer.{byte, with_block};
-ghost use Rattle.layer_theory.specs.Commander.{whole};
+ghost use Rattle.encoder_theory.specs.Buffer.{byte};
 ghost use Rattle.layer_theory.specs.Tower.{tower};
 ghost use Rattle.layer_theory.proofs.TowerLaws.{tower_lawful};
 
-use crate::group::{
-    add_up, group_count, group_place, name_commanders, put_below, put_below_values,
-};
-use crate::inner::{auxiliaries_of, clauses_of, put_list, put_values};
-use encoder::{Encoder, check_count, check_members, check_place};
+use crate::group::{Grouping, name_commanders};
+use encoder::{Encoder, append_clauses, append_values, check_count};
 use fault::Fault;
+use filling::Filling;
 use pairwise::Pairwise;
 
-// Up to so many members are encoded pairwise.
-const GROUND: usize = 5;
-
-// Above, groups have so many.
+// Groups have so many.
 const GROUP: usize = 3;
 
-#[derive(Clone, Copy)]
+#[derive(Clone, Copy, Debug, Default, PartialEq, Eq)]
 pub struct Tower;
-
-// Whether so many members go to pairwise alone.
-fn is_ground(members: usize) -> bool
-    ensures { result ≡ whole 3 members }
-{
-    members <= GROUND
-}
 
 // The number of clauses.
 fn tower_clauses(members: usize) -> usize
     requires { members ≤ most_members }
     ensures { result ≡ tower.clauses members }
 {
-    if is_ground(members) {
-        return clauses_of(&Pairwise, members);
-    }
-    let n = group_count(GROUP, members);
-    add_up(&Pairwise, GROUP, members).clauses + members + tower_clauses(n)
+    let Some(groups) = Grouping::new(GROUP, members) else {
+        return Pairwise.clauses(members).unwrap();
+    };
+    groups.clauses(&Pairwise) + tower_clauses(groups.count())
 }
 
-// The number of auxiliaries.
+// The number of auxiliaries; a function beside that of the clauses, as the trait has two methods.
 fn tower_auxiliaries(members: usize) -> usize
     requires { members ≤ most_members }
     ensures { result ≡ tower.auxiliaries members }
 {
-    if is_ground(members) {
-        return auxiliaries_of(&Pairwise, members);
-    }
-    let n = group_count(GROUP, members);
-    n + add_up(&Pairwise, GROUP, members).auxiliaries + tower_auxiliaries(n)
+    let Some(groups) = Grouping::new(GROUP, members) else {
+        return Pairwise.auxiliaries(members).unwrap();
+    };
+    groups.auxiliaries(&Pairwise) + tower_auxiliaries(groups.count())
 }
 
-// Writes the clauses from the number `at` on.
-fn put_tower(members: &[i32], first: u32, at: usize, out: &mut [i32])
+// Puts the clauses next.
+fn put_tower(members: &[i32], first: u32, out: &mut Filling<i32>)
     requires admits { Admits tower members.now first }
-    requires room { at + 2 * tower.clauses (length members.now) ≤ length out.old }
-    ensures { out.new ≡ with_block out.old at (flat (tower.list members.now first)) }
+    requires room { 2 * tower.clauses (length members.now) ≤ length (filled out.old).rest }
+    ensures { filled out.new ≡ after (filled out.old) (flat (tower.list members.now first)) }
 {
-    if is_ground(members.len()) {
-        put_list(&Pairwise, members, first, at, out);
+    let Some(groups) = Grouping::new(GROUP, members.len()) else {
+        append_clauses(&Pairwise, members, first as i32, out).unwrap();
         return;
-    }
-    let n = group_count(GROUP, members.len());
-    let names = name_commanders(first, n);
-    let above = put_below(&Pairwise, GROUP, members, first, at, out);
-    put_tower(&names[..n], above.first, above.at, out);
+    };
+    let next = groups.put(&Pairwise, members, first, out);
+    let names = name_commanders(first);
+    put_tower(&names[..groups.count()], next, out);
 }
 
-// Puts the values from the byte `at` on.
-fn put_tower_values(members: usize, place: Option<usize>, at: usize, out: &mut [u8])
+// Puts the values next.
+fn put_tower_values(members: usize, place: Option<usize>, out: &mut Filling<u8>)
     requires few { members ≤ most_members }
     requires within { Within place members }
-    requires room { at + tower.auxiliaries members ≤ length out.old }
-    ensures { out.new ≡ with_block out.old at (map byte (tower.values members place)) }
+    requires room { tower.auxiliaries members ≤ length (filled out.old).rest }
+    ensures { filled out.new ≡ after (filled out.old) (map byte (tower.values members place)) }
 {
-    if is_ground(members) {
-        put_values(&Pairwise, members, place, at, out);
+    let Some(groups) = Grouping::new(GROUP, members) else {
+        append_values(&Pairwise, members, place, out).unwrap();
         return;
-    }
-    let n = group_count(GROUP, members);
-    let after = put_below_values(&Pairwise, GROUP, members, place, at, out);
-    put_tower_values(n, group_place(GROUP, members, place), after, out);
+    };
+    groups.put_values(&Pairwise, place, out);
+    put_tower_values(groups.count(), groups.group_place(place), out);
 }
 
 impl Encoder for Tower {
@@ -95,27 +80,22 @@ impl Encoder for Tower {
     ghost lawful = { λ e. tower_lawful };
 
     fn clauses(&self, members: usize) -> Result<usize, Fault> {
-        let members = check_count(members)?;
-        Ok(tower_clauses(members))
+        check_count(members).map(tower_clauses)
     }
 
     fn auxiliaries(&self, members: usize) -> Result<usize, Fault> {
-        let members = check_count(members)?;
-        Ok(tower_auxiliaries(members))
+        check_count(members).map(tower_auxiliaries)
     }
 
     fn write(&self, members: &[i32], first: i32, out: &mut [i32]) -> Result<(), Fault> {
-        let clauses = self.clauses(members.len())?;
-        let auxiliaries = self.auxiliaries(members.len())?;
-        let first = check_members(members, first, auxiliaries, clauses, out.len())?;
-        put_tower(members, first, 0, out);
+        let first = self.check_write(members, first, out.len())?;
+        put_tower(members, first, &mut Filling::new(out));
         Ok(())
     }
 
     fn values(&self, members: usize, place: Option<usize>, out: &mut [u8]) -> Result<(), Fault> {
-        let auxiliaries = self.auxiliaries(members)?;
-        check_place(members, place, auxiliaries, out.len())?;
-        put_tower_values(members, place, 0, out);
+        self.check_values(members, place, out.len())?;
+        put_tower_values(members, place, &mut Filling::new(out));
         Ok(())
     }
 }

@@ -12,7 +12,7 @@ pub fn index_of(n: usize, a: i32) -> Option<usize>
     ensures { result ≡ (if is_literal n a then Some (index a) else None) }
 {
     let variable = a.unsigned_abs() as usize;
-    if variable == 0 || variable > n {
+    if !(1..=n).contains(&variable) {
         return None;
     }
     if a > 0 {
@@ -22,17 +22,11 @@ pub fn index_of(n: usize, a: i32) -> Option<usize>
     }
 }
 
-// So many indices have a literal that is an `i32`, and whose complement is one.
-const INDICES: usize = 4_294_967_294;
-
 // The literal of index `u`, if its variable is at most 2^31 - 1, so that it and its complement are both an `i32`.
 pub fn literal_at(u: usize) -> Option<i32>
     ensures { result ≡ (if nat_lt u (2 * (2 ^ 31 - 1)) then Some (literal u) else None) }
 {
-    if u >= INDICES {
-        return None;
-    }
-    let variable = (u / 2 + 1) as i32;
+    let variable = i32::try_from(u / 2 + 1).ok()?;
     if u % 2 == 0 {
         Some(variable)
     } else {

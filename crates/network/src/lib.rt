@@ -9,15 +9,16 @@
 
 mod matrix;
 
-ghost use Rattle.std.specs.Prelude.{◌≡◌, ◌≤◌, List, [], ◌∷◌, ◌++◌, length, is_ok, Decides};
-ghost use Rattle.network_theory.specs.Layout.{words_needed, Conflict, beyond, Mutual, Apart, Trimmed};
-ghost use Rattle.network_theory.specs.Calls.{most_variables, answered, misfit, opened, add_answer, after, run};
+ghost use Rattle.std.specs.Prelude.{◌≡◌, List, [], ◌∷◌, ◌++◌, is_ok, Decides};
+ghost use Rattle.network_theory.specs.Layout.{words_needed, Conflict, beyond};
+ghost use Rattle.network_theory.specs.Calls.{answered, misfit, opened, add_answer, after, run};
 ghost use Rattle.network_theory.specs.Runs.{Undeclined, Exact, Grows, Came};
 ghost use Rattle.network.specs.Views.{net_of};
 
-use fault::{Fault, Refusal};
+use fault::{Fault, Layer, Refusal};
 use logic::index_of;
 use matrix::Matrix;
+pub use matrix::row_words;
 pub use network_theory::Call;
 
 // A network has at most so many variables.
@@ -27,12 +28,12 @@ pub const MOST_VARIABLES: usize = 4096;
 pub fn fits(n: usize, words: usize) -> Result<usize, Fault>
     ensures { result ≡ answered (misfit n words) (words_needed n) }
 {
-    if n == 0 || n > MOST_VARIABLES {
-        return Err(matrix::decline(Refusal::VariableCount));
+    if !(1..=MOST_VARIABLES).contains(&n) {
+        return Err(Fault::new(Layer::Network, Refusal::VariableCount));
     }
     let needed = matrix::words_needed(n);
     if words < needed {
-        return Err(matrix::decline(Refusal::WordsShort));
+        return Err(Fault::new(Layer::Network, Refusal::WordsShort));
     }
     Ok(needed)
 }
@@ -45,26 +46,16 @@ pub fn edge_sizes() -> (usize, usize)
     (matrix::words_needed(32), matrix::words_needed(33))
 }
 
-// A network that takes conflicts, with what is true of every network in its type.
+// A network that takes conflicts. What is true of every network, its matrix keeps.
 #[derive(Drop)]
 pub struct Open<'a> {
     matrix: Matrix<'a>,
-    ghost few: { (net_of matrix).variables ≤ most_variables },
-    ghost room: { words_needed (net_of matrix).variables ≤ length (net_of matrix).words },
-    ghost mutual: { Mutual (net_of matrix) },
-    ghost apart: { Apart (net_of matrix) },
-    ghost trimmed: { Trimmed (net_of matrix) },
 }
 
-// A network that stays as it is, with the same. It keeps the words lent.
+// A network that stays as it is. It keeps the words lent.
 #[derive(Drop)]
 pub struct Sealed<'a> {
     matrix: Matrix<'a>,
-    ghost few: { (net_of matrix).variables ≤ most_variables },
-    ghost room: { words_needed (net_of matrix).variables ≤ length (net_of matrix).words },
-    ghost mutual: { Mutual (net_of matrix) },
-    ghost apart: { Apart (net_of matrix) },
-    ghost trimmed: { Trimmed (net_of matrix) },
 }
 
 impl<'a> Open<'a> {
@@ -75,8 +66,9 @@ impl<'a> Open<'a> {
         ensures lent { result.matrix.words.ghost_name ≡ words.entry.ghost_name }
         ensures came { Came (net_of result.matrix) [] }
     {
-        let matrix = matrix::empty(n, words);
-        Open { matrix }
+        Open {
+            matrix: Matrix::empty(n, words),
+        }
     }
 
     // Adds the conflict of two literals, and answers whether it is new. A declined add changes no word.
@@ -111,19 +103,8 @@ impl<'a> Open<'a> {
         ensures came { (calls : List Call) → Came (net_of self.entry.matrix) calls → Came (net_of result.matrix) calls }
         ensures exact { (calls : List Call) → Came (net_of self.entry.matrix) calls → Exact (net_of result.matrix) calls }
     {
-        self.close()
-    }
-
-    // Hands the matrix on.
-    fn close(self) -> Sealed<'a>
-        ensures network { net_of result.matrix ≡ net_of self.entry.matrix }
-        ensures lent { result.matrix.words.ghost_name ≡ self.entry.matrix.words.ghost_name }
-    {
         let Open { matrix } = self;
-        let Matrix { variables, words } = matrix;
-        Sealed {
-            matrix: Matrix { variables, words },
-        }
+        Sealed { matrix }
     }
 }
 

@@ -4,11 +4,7 @@ use network::{Call, Open, feed, fits};
 use std::test::Fail;
 
 fn refused(refusal: Refusal) -> Fault {
-    Fault {
-        refusal,
-        layer: Layer::Network,
-        place: 0,
-    }
+    Fault::new(Layer::Network, refusal)
 }
 
 #[test]

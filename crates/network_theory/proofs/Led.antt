@@ -1,14 +1,16 @@
 -- Exactly the accepted conflicts stand, whatever the calls.
-use Rattle.std.proofs.Common.{◌≡◌, ℕ, ◌+◌, ◌<◌, ◌≤◌, true, false, ◌&&◌, ◌||◌, eqb, ◌⊎◌, ◌↔◌, List, [], ◌∷◌, ◌++◌, length, get_or, take, ℤ, is_some, sym, refl, ap, ◌∙◌, subst, inl, inr, ⊎_elim, arith}
+use Rattle.std.proofs.Common.{◌≡◌, ℕ, ◌+◌, ◌<◌, ◌≤◌, true, false, ◌&&◌, ◌||◌, eqb, ◌⊎◌, ◌↔◌, List, [], ◌∷◌, ◌++◌, length, get_or, take, ℤ, is_some, Ok, Err, Result, sym, refl, ap, ◌∙◌, subst, inl, inr, ⊎_elim, arith}
 use Rattle.std.proofs.lemmas.Bool.{both_ways, not_from_true, not_from_false, eqb-true, eq-eqb, and_parts, and_from, or_cases, or_left, or_right, cases_Bool, cond-true, cond-false}
 use Rattle.std.proofs.lemmas.List.{take_more, take_all}
+use Rattle.fault.specs.declared.Fault.{Fault}
 use Rattle.logic.specs.Literal.{Literal, index}
 use Rattle.logic.proofs.Literals.{index_below, index_injective}
 use Rattle.network_theory.specs.declared.Call.{Call}
 use Rattle.network_theory.specs.declared.Call.TheVariants.{Add}
 use Rattle.network_theory.specs.Layout.{words_needed, stands, with_conflict, Net, Conflict}
-use Rattle.network_theory.specs.Calls.{opened_variables, opened, objection, words_after, after, run}
+use Rattle.network_theory.specs.Calls.{opened_variables, opened, answered, objection, words_after, after, run}
 use Rattle.network_theory.specs.Runs.{Undeclined, Adds, Accepts, Accepted, Exact, Grows, Came}
+use Rattle.network_theory.proofs.Answered.{ok_answered, err_answered}
 use Rattle.network_theory.proofs.Places.{column_within}
 use Rattle.network_theory.proofs.Marks.{stands_with_conflict, stands_cleared}
 use Rattle.network_theory.proofs.Opens.{room_opened}
@@ -138,3 +140,17 @@ run_step first net net' calls i d h e f =
 
 pub run_all : (first net : Net) (calls : List Call) (i : ℕ) → length calls ≤ i → net ≡ run first (take i calls) → net ≡ run first calls
 run_all first net calls i h e = e ∙ ap (run first) (take_all i calls h)
+
+-- what an add leaves, told by the indices that it found
+pub add_taken : (net : Net) (a b : ℤ) (u w : ℕ) (ws : List ℕ)
+    → ◌≡◌ {A = Result (ℕ × ℕ) Fault} (Ok (u, w)) (answered (objection net.variables (Add a b)) (index a, index b))
+    → ws ≡ with_conflict net.variables net.words u w
+    → ◌≡◌ {A = Net} (record { variables = net.variables; words = ws }) (after net (Add a b))
+add_taken net a b u w ws h e =
+    let k = ok_answered (objection net.variables (Add a b)) (index a, index b) (u, w) h in
+    same_net _ _ _ _ refl
+    (e ∙ ap (λ (p : ℕ × ℕ). with_conflict net.variables net.words p.0 p.1) k.1 ∙ sym (cond-false (is_some (objection net.variables (Add a b))) net.words _ k.0))
+
+-- and a declined one
+pub add_declined : (net : Net) (a b : ℤ) (p : ℕ × ℕ) (e : Fault) → Err e ≡ answered (objection net.variables (Add a b)) p → net ≡ after net (Add a b)
+add_declined net a b p e h = same_net _ _ _ _ refl (sym (cond-true (is_some (objection net.variables (Add a b))) net.words _ (err_answered _ p p e h).0))

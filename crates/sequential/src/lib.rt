@@ -1,20 +1,22 @@
 // Sequential: the auxiliary at i says that a member up to i is true. Nothing below two members.
 #![tactic(auto)]
 
-ghost use Rattle.std.specs.Prelude.{◌≡◌, ◌+◌, ◌-◌, ◌*◌, ◌<◌, ◌≤◌, length};
+ghost use Rattle.std.specs.Prelude.{◌≡◌, ◌+◌, ◌-◌, ◌*◌, ◌<◌, ◌≤◌, length, map};
 ghost use Rattle.logic.specs.Literal.{variable};
-ghost use Rattle.logic.specs.Clause.{against};
+ghost use Rattle.logic.specs.Clause.{against, flat};
+ghost use Rattle.filling.specs.Filled.{after};
+ghost use Rattle.filling.specs.Views.{filled};
 ghost use Rattle.encoder_theory.specs.Members.{auxiliary};
 ghost use Rattle.encoder_theory.specs.Meaning.{Admits, most_members, last_end};
-ghost use Rattle.encoder_theory.specs.Buffer.{with_clauses, byte};
-ghost use Rattle.encoder_theory.specs.Calls.{written, filled};
-ghost use Rattle.encoder_theory.specs.Sequential.{implies, link, reached, sequential};
+ghost use Rattle.encoder_theory.specs.Buffer.{byte};
+ghost use Rattle.encoder_theory.specs.Sequential.{implies, reached, sequential};
 ghost use Rattle.encoder_theory.proofs.SequentialLaws.{sequential_lawful};
 
-use encoder::{Encoder, check_count, check_members, check_place, put_clause};
+use encoder::{Encoder, auxiliary_literal, check_count, push_clause};
 use fault::Fault;
+use filling::Filling;
 
-#[derive(Clone, Copy)]
+#[derive(Clone, Copy, Debug, Default, PartialEq, Eq)]
 pub struct Sequential;
 
 // Two clauses for the ends and three for each member between.
@@ -32,87 +34,58 @@ fn auxiliary_count(members: usize) -> usize
     members.saturating_sub(1)
 }
 
-// The auxiliary at a place, as a literal.
-fn auxiliary_literal(first: u32, i: usize) -> i32
-    requires { first + i ≤ last_end }
-    ensures { result ≡ auxiliary first i }
+// The clause that q is true if p is. Writing the clauses where they are put was tried, and the proof did not close.
+fn implication(p: i32, q: i32) -> (i32, i32)
+    requires { variable p ≤ last_end }
+    ensures { result ≡ implies p q }
 {
-    first as i32 + i as i32
+    (-p, q)
 }
 
-// A member raises the auxiliary at its place.
-fn raises(member: i32, first: u32, i: usize) -> (i32, i32)
-    requires { (variable member ≤ last_end) × (first + i ≤ last_end) }
-    ensures { result ≡ implies member (auxiliary first i) }
+// The clause that two literals are not both true.
+fn exclusion(a: i32, b: i32) -> (i32, i32)
+    requires { (variable a ≤ last_end) × (variable b ≤ last_end) }
+    ensures { result ≡ against a b }
 {
-    (-member, auxiliary_literal(first, i))
+    (-a, -b)
 }
 
-// The auxiliary before i passes on to the one at i.
-fn passes(first: u32, i: usize) -> (i32, i32)
-    requires { (1 ≤ i) × (first + i ≤ last_end) }
-    ensures { result ≡ implies (auxiliary first (i - 1)) (auxiliary first i) }
-{
-    (
-        -auxiliary_literal(first, i - 1),
-        auxiliary_literal(first, i),
-    )
-}
-
-// The auxiliary at i stops a member after it.
-fn stops(member: i32, first: u32, i: usize) -> (i32, i32)
-    requires { (variable member ≤ last_end) × (first + i ≤ last_end) }
-    ensures { result ≡ against member (auxiliary first i) }
-{
-    (-member, -auxiliary_literal(first, i))
-}
-
-// Writes the three clauses of a member between the first and the last.
-fn put_link(members: &[i32], first: u32, i: usize, at: usize, out: &mut [i32])
+// Puts the clauses next, none below two members: each member raises the auxiliary at its place,
+// the auxiliary before passes on to it, and stops the member.
+fn put_sequence(members: &[i32], first: u32, out: &mut Filling<i32>)
     requires admits { Admits sequential members.now first }
-    requires between { (1 ≤ i) × (i + 1 < length members.now) }
-    requires room { at + 6 ≤ length out.old }
-    ensures { out.new ≡ with_clauses out.old at (link members.now first i) }
+    requires room { 2 * sequential.clauses (length members.now) ≤ length (filled out.old).rest }
+    ensures { filled out.new ≡ after (filled out.old) (flat (sequential.list members.now first)) }
 {
-    put_clause(out, at, raises(members[i], first, i));
-    put_clause(out, at + 2, passes(first, i));
-    put_clause(out, at + 4, stops(members[i], first, i - 1));
-}
-
-// Writes the clauses of two members or more at the start of `out`.
-fn put_sequence(members: &[i32], first: u32, out: &mut [i32])
-    requires admits { Admits sequential members.now first }
-    requires two { 2 ≤ length members.now }
-    requires room { 2 * sequential.clauses (length members.now) ≤ length out.old }
-    ensures { out.new ≡ written sequential members.now first out.old }
-{
-    let m = members.len();
-    put_clause(out, 0, raises(members[0], first, 0));
-    let mut at = 2;
-    for i in 1..m - 1 {
-        put_link(members, first, i, at, out);
-        at += 6;
+    if let [start, between @ .., end] = members {
+        push_clause(out, implication(*start, auxiliary_literal(first, 0)));
+        for (i, member) in between.iter().enumerate() {
+            let before = auxiliary_literal(first, i);
+            let here = auxiliary_literal(first, i + 1);
+            push_clause(out, implication(*member, here));
+            push_clause(out, implication(before, here));
+            push_clause(out, exclusion(*member, before));
+        }
+        let last = auxiliary_literal(first, between.len());
+        push_clause(out, exclusion(*end, last));
     }
-    put_clause(out, at, stops(members[m - 1], first, m - 2));
 }
 
 // The value of the auxiliary at i: whether the true member's place is i or before.
 fn value(place: Option<usize>, i: usize) -> u8
     ensures { result ≡ byte (reached place i) }
 {
-    match place {
-        Some(t) => if t <= i { 1 } else { 0 },
-        None => 0,
-    }
+    u8::from(place.is_some_and(|t| t <= i))
 }
 
-// Puts the values at the start of `out`.
-fn put_values(members: usize, place: Option<usize>, out: &mut [u8])
-    requires { sequential.auxiliaries members ≤ length out.old }
-    ensures { out.new ≡ filled sequential members place out.old }
+// Puts the values next.
+// Not shared by the encoders: a public loop over a closure would require something of its callers.
+fn put_values(members: usize, place: Option<usize>, out: &mut Filling<u8>)
+    requires { sequential.auxiliaries members ≤ length (filled out.old).rest }
+    ensures { filled out.new ≡ after (filled out.old) (map byte (sequential.values members place)) }
 {
     for i in 0..auxiliary_count(members) {
-        out[i] = value(place, i);
+        out.push(value(place, i));
     }
 }
 
@@ -122,29 +95,22 @@ impl Encoder for Sequential {
     ghost lawful = { λ e. sequential_lawful };
 
     fn clauses(&self, members: usize) -> Result<usize, Fault> {
-        let members = check_count(members)?;
-        Ok(clause_count(members))
+        check_count(members).map(clause_count)
     }
 
     fn auxiliaries(&self, members: usize) -> Result<usize, Fault> {
-        let members = check_count(members)?;
-        Ok(auxiliary_count(members))
+        check_count(members).map(auxiliary_count)
     }
 
     fn write(&self, members: &[i32], first: i32, out: &mut [i32]) -> Result<(), Fault> {
-        let clauses = self.clauses(members.len())?;
-        let auxiliaries = self.auxiliaries(members.len())?;
-        let first = check_members(members, first, auxiliaries, clauses, out.len())?;
-        if members.len() >= 2 {
-            put_sequence(members, first, out);
-        }
+        let first = self.check_write(members, first, out.len())?;
+        put_sequence(members, first, &mut Filling::new(out));
         Ok(())
     }
 
     fn values(&self, members: usize, place: Option<usize>, out: &mut [u8]) -> Result<(), Fault> {
-        let auxiliaries = self.auxiliaries(members)?;
-        check_place(members, place, auxiliaries, out.len())?;
-        put_values(members, place, out);
+        self.check_values(members, place, out.len())?;
+        put_values(members, place, &mut Filling::new(out));
         Ok(())
     }
 }

@@ -1,6 +1,4 @@
 mod Turns
-mod Decimals
-mod Buffers
 mod Numbers
 mod Admitted
 mod Accepted

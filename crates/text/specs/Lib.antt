@@ -1,3 +1,3 @@
 pub mod Steady
 pub mod Turn
-pub mod Buffers
+pub mod Room

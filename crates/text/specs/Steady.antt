@@ -20,18 +20,34 @@ Decimal F = Unit {0}
 Decimal P = Unit {0}
 Decimal Other = Unit {0}
 
--- the numbers that a state holds are within the header's limits
+-- the header's n and k, as far as a state holds them
+abbrev pub variables_of : State → ℕ
+variables_of LineStart = 0
+variables_of Gap = 0
+variables_of Comment = 0
+variables_of (Keyword from matched) = 0
+variables_of (Variables from value) = value
+variables_of (BeforeClauses from variables) = variables
+variables_of (Clauses from variables value) = variables
+variables_of (Sign from) = 0
+variables_of (Zero from) = 0
+variables_of (Number from negative size) = 0
+
+abbrev pub clauses_of : State → ℕ
+clauses_of LineStart = 0
+clauses_of Gap = 0
+clauses_of Comment = 0
+clauses_of (Keyword from matched) = 0
+clauses_of (Variables from value) = 0
+clauses_of (BeforeClauses from variables) = 0
+clauses_of (Clauses from variables value) = value
+clauses_of (Sign from) = 0
+clauses_of (Zero from) = 0
+clauses_of (Number from negative size) = 0
+
+-- they are within a header's limits
 abbrev pub Small : State → Type 0
-Small LineStart = Unit {0}
-Small Gap = Unit {0}
-Small Comment = Unit {0}
-Small (Keyword from matched) = Unit {0}
-Small (Variables from value) = value < 1_000_000_000
-Small (BeforeClauses from variables) = variables < 1_000_000_000
-Small (Clauses from variables value) = (variables < 1_000_000_000) × (value ≤ 1_000_000)
-Small (Sign from) = Unit {0}
-Small (Zero from) = Unit {0}
-Small (Number from negative size) = Unit {0}
+Small s = (variables_of s < 1_000_000_000) × (clauses_of s ≤ 1_000_000)
 
 pub record Steady (m : Machine) (room : ℕ) : Type 0 where
   pub small : Small m.state

@@ -1,29 +1,20 @@
 // The reader: one pass over a text's bytes, into a lent list.
-ghost use Rattle.std.specs.Prelude.{◌≡◌, ℕ, ◌+◌, ◌*◌, ◌<◌, ◌≤◌, length, is_some};
+ghost use Rattle.std.specs.Prelude.{◌≡◌, ◌<◌, length, is_some};
 ghost use Rattle.dimacs.specs.Steps.{go, head, put, step_of, end_of, grown};
-ghost use Rattle.dimacs.specs.Reading.{reading, start as starting, closed_by, fault_at, limit_of};
+ghost use Rattle.dimacs.specs.Reading.{reading, closed_by, limit_of};
 ghost use Rattle.dimacs.specs.Laws.{AcceptsFiles, OneFile};
 ghost use Rattle.text.specs.Steady.{Steady, Decimal, Small};
-ghost use Rattle.text.specs.Turn.{Turned};
 
-use crate::class::class_of;
 use dimacs::{Class, Header, Machine, State, Summary};
-use fault::{Fault, Layer, Refusal};
+use fault::{Fault, Refusal};
 
-#[derive(Drop)]
+// The list lent, and what is remembered of the bytes behind.
+// The machine counts the numbers listed, as the rule of reading does; a `Filling` would count them a second time.
+#[derive(Debug, Drop)]
 struct Reader<'a> {
     list: &'a mut [i32],
     machine: Machine,
-}
-
-fn fault_at(refusal: Refusal, place: usize) -> Fault
-    ensures { result ≡ fault_at refusal place }
-{
-    Fault {
-        refusal,
-        layer: Layer::Text,
-        place,
-    }
+    ghost steady: { Steady machine (length list.now) },
 }
 
 // From this number on there are nine digits, the most that a header's n has.
@@ -48,17 +39,19 @@ fn grow(size: u32, digit: u8) -> u32
 }
 
 impl Reader<'_> {
+    ghost use Rattle.text.specs.Turn.{Turned, Ran};
+
     fn go(&mut self, state: State) -> Result<(), Fault>
-        ensures turned { Turned self.old.machine self.old.list.now (go state) result self.new.machine self.new.list.now }
-        ensures lender { self.new.list.ghost_name ≡ self.old.list.ghost_name }
+        requires { Small state }
+        ensures { Turned self.old (go state) result self.new }
     {
         self.machine.state = state;
         Ok(())
     }
 
     fn head(&mut self, variables: u32, clauses: u32) -> Result<(), Fault>
-        ensures turned { Turned self.old.machine self.old.list.now (head variables clauses) result self.new.machine self.new.list.now }
-        ensures lender { self.new.list.ghost_name ≡ self.old.list.ghost_name }
+        requires { variables < 1_000_000_000 }
+        ensures { Turned self.old (head variables clauses) result self.new }
     {
         self.machine.state = State::LineStart;
         self.machine.header = Some(Header { variables, clauses });
@@ -69,24 +62,19 @@ impl Reader<'_> {
     fn limit(&self) -> u32
         ensures { result ≡ limit_of self.now.machine.header }
     {
-        match self.machine.header {
-            Some(header) => header.variables,
-            None => 0,
-        }
+        self.machine.header.map_or(0, |header| header.variables)
     }
 
     // Lists a number whose last digit is behind.
     fn put(&mut self, from: usize, negative: bool, size: u32, next: State) -> Result<(), Fault>
-        requires { (Steady self.old.machine (length self.old.list.now)) × (Small next) }
-        ensures turned { Turned self.old.machine self.old.list.now (put from negative size next) result self.new.machine self.new.list.now }
-        ensures steady { Steady self.new.machine (length self.new.list.now) }
-        ensures lender { self.new.list.ghost_name ≡ self.old.list.ghost_name }
+        requires { Small next }
+        ensures { Turned self.old (put from negative size next) result self.new }
     {
         if size > self.limit() {
-            return Err(fault_at(Refusal::VariableAboveHeader, from));
+            return Err(Fault::in_text(Refusal::VariableAboveHeader, from));
         }
         if self.machine.listed >= self.list.len() {
-            return Err(fault_at(Refusal::ClauseListFull, from));
+            return Err(Fault::in_text(Refusal::ClauseListFull, from));
         }
         let number = size as i32;
         self.list[self.machine.listed] = if negative { -number } else { number };
@@ -101,10 +89,8 @@ impl Reader<'_> {
 
     // Takes one byte: what it does depends on the state and the byte's class together.
     fn take(&mut self, class: Class, at: usize) -> Result<(), Fault>
-        requires { (Steady self.old.machine (length self.old.list.now)) × (Decimal class) }
-        ensures turned { Turned self.old.machine self.old.list.now (step_of (is_some self.old.machine.header) self.old.machine.state class at) result self.new.machine self.new.list.now }
-        ensures steady { Steady self.new.machine (length self.new.list.now) }
-        ensures lender { self.new.list.ghost_name ≡ self.old.list.ghost_name }
+        requires { Decimal class }
+        ensures { Turned self.old (step_of (is_some self.old.machine.header) self.old.machine.state class at) result self.new }
     {
         let headed = self.machine.header.is_some();
         match (self.machine.state, class) {
@@ -131,6 +117,7 @@ impl Reader<'_> {
                 size: d as u32,
             }),
             (State::Comment, _) => self.go(State::Comment),
+            // ` cnf `, an arm for each byte: looking the next one up in an array was tried, and the proof did not close
             (State::Keyword { from, matched: 0 }, Class::Space) => self.go(State::Keyword {
                 from,
                 matched: 1,
@@ -197,7 +184,7 @@ impl Reader<'_> {
                 | State::BeforeClauses { from, .. }
                 | State::Clauses { from, .. },
                 _,
-            ) => Err(fault_at(Refusal::MalformedHeader, from)),
+            ) => Err(Fault::in_text(Refusal::MalformedHeader, from)),
             (State::Sign { from }, Class::Digit(d)) if d > 0 => self.go(State::Number {
                 from,
                 negative: true,
@@ -238,28 +225,25 @@ impl Reader<'_> {
                 },
                 Class::LineFeed,
             ) => self.put(from, negative, size, State::LineStart),
-            (_, _) => Err(fault_at(Refusal::UnexpectedByte, at)),
+            (_, _) => Err(Fault::in_text(Refusal::UnexpectedByte, at)),
         }
     }
 
     // What the text's end does to a number or a header that stands there.
     fn end(&mut self, len: usize) -> Result<(), Fault>
-        requires { Steady self.old.machine (length self.old.list.now) }
-        ensures turned { Turned self.old.machine self.old.list.now (end_of (is_some self.old.machine.header) self.old.machine.state len) result self.new.machine self.new.list.now }
-        ensures lender { self.new.list.ghost_name ≡ self.old.list.ghost_name }
+        ensures { Turned self.old (end_of (is_some self.old.machine.header) self.old.machine.state len) result self.new }
     {
         match self.machine.state {
             State::LineStart | State::Gap | State::Comment if self.machine.header.is_some() => Ok(
                 (),
             ),
-            State::LineStart | State::Gap | State::Comment | State::Sign { .. } => Err(fault_at(
-                Refusal::UnexpectedEnd,
-                len,
-            )),
+            State::LineStart | State::Gap | State::Comment | State::Sign { .. } => Err(
+                Fault::in_text(Refusal::UnexpectedEnd, len),
+            ),
             State::Keyword { from, .. }
             | State::Variables { from, .. }
             | State::BeforeClauses { from, .. }
-            | State::Clauses { from, .. } => Err(fault_at(Refusal::MalformedHeader, from)),
+            | State::Clauses { from, .. } => Err(Fault::in_text(Refusal::MalformedHeader, from)),
             State::Zero { from } => self.put(from, false, 0, State::LineStart),
             State::Number {
                 from,
@@ -274,19 +258,30 @@ impl Reader<'_> {
         ensures { result ≡ closed_by self.now.machine.header self.now.machine len }
     {
         let Some(header) = self.machine.header else {
-            return Err(fault_at(Refusal::UnexpectedEnd, len));
+            return Err(Fault::in_text(Refusal::UnexpectedEnd, len));
         };
         if self.machine.inside {
-            return Err(fault_at(Refusal::UnexpectedEnd, len));
+            return Err(Fault::in_text(Refusal::UnexpectedEnd, len));
         }
         if self.machine.closed != header.clauses as usize {
-            return Err(fault_at(Refusal::ClauseCount, len));
+            return Err(Fault::in_text(Refusal::ClauseCount, len));
         }
         Ok(Summary {
             variables: header.variables,
             clauses: self.machine.closed,
             numbers: self.machine.listed,
         })
+    }
+
+    // Reads a text to its end, and answers what was read.
+    fn run(&mut self, text: &[u8]) -> Result<Summary, Fault>
+        ensures { Ran self.old text.now result self.new }
+    {
+        for (at, byte) in text.iter().enumerate() {
+            self.take(Class::from(*byte), at)?;
+        }
+        self.end(text.len())?;
+        self.summary(text.len())
     }
 }
 
@@ -301,24 +296,7 @@ pub fn read(text: &[u8], list: &mut [i32]) -> Result<Summary, Fault>
 {
     let mut reader = Reader {
         list,
-        machine: start(),
+        machine: Machine::default(),
     };
-    for (at, byte) in text.iter().enumerate() {
-        reader.take(class_of(*byte), at)?;
-    }
-    reader.end(text.len())?;
-    reader.summary(text.len())
-}
-
-// Before the first byte.
-fn start() -> Machine
-    ensures value { result ≡ starting }
-{
-    Machine {
-        state: State::LineStart,
-        header: None,
-        listed: 0,
-        closed: 0,
-        inside: false,
-    }
+    reader.run(text)
 }

@@ -1,39 +1,39 @@
 use dimacs::Summary;
-use fault::{Fault, Layer};
+use fault::{Fault, Refusal};
 use std::process::Abort;
 use std::test::Fail;
 use text::read::read;
 
-#[derive(Clone, Copy)]
+// A text, and what comes of it: how many numbers are listed, or its fault.
+#[derive(Clone, Copy, Debug)]
 struct Case<'a> {
     text: &'a [u8],
-    // the fault's number, or 0, and its place, or how many numbers were listed
-    number: u8,
-    place: usize,
+    outcome: Result<usize, Fault>,
 }
 
-fn given(text: &[u8], number: u8, place: usize) -> Case<'_> {
+fn accepted(text: &[u8], numbers: usize) -> Case<'_> {
     Case {
         text,
-        number,
-        place,
+        outcome: Ok(numbers),
     }
 }
 
-// The number and place of a text's fault, with room for eight numbers; 0 and the numbers listed where there is none.
-fn outcome(text: &[u8]) -> (u8, usize) {
-    let mut list = [0i32; 8];
-    match read(text, &mut list) {
-        Ok(found) => (0, found.numbers),
-        Err(fault) => (fault.refusal.number(), fault.place),
+fn refused(text: &[u8], refusal: Refusal, place: usize) -> Case<'_> {
+    Case {
+        text,
+        outcome: Err(Fault::in_text(refusal, place)),
     }
+}
+
+// Reads a text with room for eight numbers.
+fn outcome(text: &[u8]) -> Result<usize, Fault> {
+    let mut list = [0i32; 8];
+    Ok(read(text, &mut list)?.numbers)
 }
 
 fn run(rt: &impl Abort, cases: &[Case]) {
-    for one in cases {
-        let (number, place) = outcome(one.text);
-        assert_eq!(rt; number, one.number);
-        assert_eq!(rt; place, one.place);
+    for case in cases {
+        assert_eq!(rt; outcome(case.text), case.outcome);
     }
 }
 
@@ -42,25 +42,24 @@ fn accepts(rt: HostRuntime) {
     run(
         &rt,
         &[
-            given(b"p cnf 2 1\n1 -2 0\n", 0, 3),
+            accepted(b"p cnf 2 1\n1 -2 0\n", 3),
             // no line feed at the end, after a number and after a comment
-            given(b"p cnf 2 1\n1 -2 0", 0, 3),
-            given(b"p cnf 2 1\n1 -2 0\nc end", 0, 3),
+            accepted(b"p cnf 2 1\n1 -2 0", 3),
+            accepted(b"p cnf 2 1\n1 -2 0\nc end", 3),
             // blanks of all four kinds
-            given(b"\n \t\r\np cnf 2 2\n 1\t-2\r0\n\n\t0 ", 0, 4),
+            accepted(b"\n \t\r\np cnf 2 2\n 1\t-2\r0\n\n\t0 ", 4),
             // comments before, between and inside clauses, with any bytes
-            given(
+            accepted(
                 b"c \xff\x00 p cnf 9 9\np cnf 2 2\n1\nc in a clause\n0\nc\n-2 0\n",
-                0,
                 4,
             ),
             // empty clauses, and none
-            given(b"p cnf 0 3\n0 0\n0\n", 0, 3),
-            given(b"p cnf 0 0\n", 0, 0),
+            accepted(b"p cnf 0 3\n0 0\n0\n", 3),
+            accepted(b"p cnf 0 0\n", 0),
             // numbers at the limits
-            given(b"p cnf 999999999 1\n999999999 -999999999 0\n", 0, 3),
+            accepted(b"p cnf 999999999 1\n999999999 -999999999 0\n", 3),
             // one line for many clauses, and a clause over many lines
-            given(b"p cnf 3 3\n1 0 2 0 -3\n\n3\n0", 0, 7),
+            accepted(b"p cnf 3 3\n1 0 2 0 -3\n\n3\n0", 7),
         ],
     );
 }
@@ -71,24 +70,24 @@ fn unexpected_byte(rt: HostRuntime) {
         &rt,
         &[
             // a number or a letter before the header, a second header
-            given(b"1 0\np cnf 1 1\n", 13, 0),
-            given(b"-1 0\np cnf 1 1\n", 13, 0),
-            given(b"x", 13, 0),
-            given(b"p cnf 1 0\np cnf 1 0\n", 13, 10),
+            refused(b"1 0\np cnf 1 1\n", Refusal::UnexpectedByte, 0),
+            refused(b"-1 0\np cnf 1 1\n", Refusal::UnexpectedByte, 0),
+            refused(b"x", Refusal::UnexpectedByte, 0),
+            refused(b"p cnf 1 0\np cnf 1 0\n", Refusal::UnexpectedByte, 10),
             // `c` and `p` past a line's start
-            given(b" c\np cnf 1 0\n", 13, 1),
-            given(b" p cnf 1 0\n", 13, 1),
-            given(b"p cnf 1 1\n1 0 c\n", 13, 14),
+            refused(b" c\np cnf 1 0\n", Refusal::UnexpectedByte, 1),
+            refused(b" p cnf 1 0\n", Refusal::UnexpectedByte, 1),
+            refused(b"p cnf 1 1\n1 0 c\n", Refusal::UnexpectedByte, 14),
             // numbers that are led by 0, 0 with a minus, a minus alone, a letter in a number
-            given(b"p cnf 1 1\n01 0\n", 13, 11),
-            given(b"p cnf 1 1\n-0 0\n", 13, 11),
-            given(b"p cnf 1 1\n- 1 0\n", 13, 11),
-            given(b"p cnf 1 1\n--1 0\n", 13, 11),
-            given(b"p cnf 1 1\n1x 0\n", 13, 11),
-            given(b"p cnf 1 1\n1-1 0\n", 13, 11),
+            refused(b"p cnf 1 1\n01 0\n", Refusal::UnexpectedByte, 11),
+            refused(b"p cnf 1 1\n-0 0\n", Refusal::UnexpectedByte, 11),
+            refused(b"p cnf 1 1\n- 1 0\n", Refusal::UnexpectedByte, 11),
+            refused(b"p cnf 1 1\n--1 0\n", Refusal::UnexpectedByte, 11),
+            refused(b"p cnf 1 1\n1x 0\n", Refusal::UnexpectedByte, 11),
+            refused(b"p cnf 1 1\n1-1 0\n", Refusal::UnexpectedByte, 11),
             // a bad byte in a number comes before its size
-            given(b"p cnf 1 1\n99999999999x 0\n", 13, 21),
-            given(b"p cnf 1 1\n+1 0\n", 13, 10),
+            refused(b"p cnf 1 1\n99999999999x 0\n", Refusal::UnexpectedByte, 21),
+            refused(b"p cnf 1 1\n+1 0\n", Refusal::UnexpectedByte, 10),
         ],
     );
 }
@@ -98,23 +97,23 @@ fn malformed_header(rt: HostRuntime) {
     run(
         &rt,
         &[
-            given(b"p  cnf 1 0\n", 14, 0),
-            given(b"p cnf  1 0\n", 14, 0),
-            given(b"p cnf 1  0\n", 14, 0),
-            given(b"p cnf 1 0 \n", 14, 0),
-            given(b"p cnf 1 0\r\n", 14, 0),
-            given(b"p cnf\t1 0\n", 14, 0),
-            given(b"p dnf 1 0\n", 14, 0),
-            given(b"pcnf 1 0\n", 14, 0),
-            given(b"p cnf -1 0\n", 14, 0),
-            given(b"p cnf 01 0\n", 14, 0),
-            given(b"p cnf 1 00\n", 14, 0),
-            given(b"p cnf 1000000000 0\n", 14, 0),
-            given(b"p cnf 1 1000001\n", 14, 0),
+            refused(b"p  cnf 1 0\n", Refusal::MalformedHeader, 0),
+            refused(b"p cnf  1 0\n", Refusal::MalformedHeader, 0),
+            refused(b"p cnf 1  0\n", Refusal::MalformedHeader, 0),
+            refused(b"p cnf 1 0 \n", Refusal::MalformedHeader, 0),
+            refused(b"p cnf 1 0\r\n", Refusal::MalformedHeader, 0),
+            refused(b"p cnf\t1 0\n", Refusal::MalformedHeader, 0),
+            refused(b"p dnf 1 0\n", Refusal::MalformedHeader, 0),
+            refused(b"pcnf 1 0\n", Refusal::MalformedHeader, 0),
+            refused(b"p cnf -1 0\n", Refusal::MalformedHeader, 0),
+            refused(b"p cnf 01 0\n", Refusal::MalformedHeader, 0),
+            refused(b"p cnf 1 00\n", Refusal::MalformedHeader, 0),
+            refused(b"p cnf 1000000000 0\n", Refusal::MalformedHeader, 0),
+            refused(b"p cnf 1 1000001\n", Refusal::MalformedHeader, 0),
             // cut short, and not at the text's start
-            given(b"c x\np cnf 1 0", 14, 4),
-            given(b"c x\n\np cnf 1", 14, 5),
-            given(b"p", 14, 0),
+            refused(b"c x\np cnf 1 0", Refusal::MalformedHeader, 4),
+            refused(b"c x\n\np cnf 1", Refusal::MalformedHeader, 5),
+            refused(b"p", Refusal::MalformedHeader, 0),
         ],
     );
 }
@@ -124,14 +123,30 @@ fn variable_above_header(rt: HostRuntime) {
     run(
         &rt,
         &[
-            given(b"p cnf 2 1\n1 -3 0\n", 15, 12),
-            given(b"p cnf 2 1\n3 0\n", 15, 10),
-            given(b"p cnf 2 1\n2147483647 0\n", 15, 10),
-            given(b"p cnf 2 1\n2147483648 0\n", 15, 10),
-            given(b"p cnf 999999999 1\n1000000000 0\n", 15, 18),
-            given(b"p cnf 999999999 1\n-99999999999999999999 0\n", 15, 18),
+            refused(b"p cnf 2 1\n1 -3 0\n", Refusal::VariableAboveHeader, 12),
+            refused(b"p cnf 2 1\n3 0\n", Refusal::VariableAboveHeader, 10),
+            refused(
+                b"p cnf 2 1\n2147483647 0\n",
+                Refusal::VariableAboveHeader,
+                10,
+            ),
+            refused(
+                b"p cnf 2 1\n2147483648 0\n",
+                Refusal::VariableAboveHeader,
+                10,
+            ),
+            refused(
+                b"p cnf 999999999 1\n1000000000 0\n",
+                Refusal::VariableAboveHeader,
+                18,
+            ),
+            refused(
+                b"p cnf 999999999 1\n-99999999999999999999 0\n",
+                Refusal::VariableAboveHeader,
+                18,
+            ),
             // at the text's end
-            given(b"p cnf 1 1\n2", 15, 10),
+            refused(b"p cnf 1 1\n2", Refusal::VariableAboveHeader, 10),
         ],
     );
 }
@@ -141,11 +156,23 @@ fn list_full(rt: HostRuntime) {
     run(
         &rt,
         &[
-            given(b"p cnf 9 2\n1 2 3 4 5 6 7 0 8 0\n", 16, 26),
-            given(b"p cnf 9 1\n1 2 3 4 5 6 7 8 -9 0\n", 16, 26),
+            refused(
+                b"p cnf 9 2\n1 2 3 4 5 6 7 0 8 0\n",
+                Refusal::ClauseListFull,
+                26,
+            ),
+            refused(
+                b"p cnf 9 1\n1 2 3 4 5 6 7 8 -9 0\n",
+                Refusal::ClauseListFull,
+                26,
+            ),
             // at the text's end, and 15 before 16
-            given(b"p cnf 9 1\n1 2 3 4 5 6 7 8 0", 16, 26),
-            given(b"p cnf 9 1\n1 2 3 4 5 6 7 8 10 0", 15, 26),
+            refused(b"p cnf 9 1\n1 2 3 4 5 6 7 8 0", Refusal::ClauseListFull, 26),
+            refused(
+                b"p cnf 9 1\n1 2 3 4 5 6 7 8 10 0",
+                Refusal::VariableAboveHeader,
+                26,
+            ),
         ],
     );
 }
@@ -155,12 +182,12 @@ fn unexpected_end(rt: HostRuntime) {
     run(
         &rt,
         &[
-            given(b"", 17, 0),
-            given(b"c only\n", 17, 7),
-            given(b" \n\t", 17, 3),
-            given(b"p cnf 1 1\n1", 17, 11),
-            given(b"p cnf 1 1\n1\n", 17, 12),
-            given(b"p cnf 1 1\n-", 17, 11),
+            refused(b"", Refusal::UnexpectedEnd, 0),
+            refused(b"c only\n", Refusal::UnexpectedEnd, 7),
+            refused(b" \n\t", Refusal::UnexpectedEnd, 3),
+            refused(b"p cnf 1 1\n1", Refusal::UnexpectedEnd, 11),
+            refused(b"p cnf 1 1\n1\n", Refusal::UnexpectedEnd, 12),
+            refused(b"p cnf 1 1\n-", Refusal::UnexpectedEnd, 11),
         ],
     );
 }
@@ -170,11 +197,11 @@ fn clause_count(rt: HostRuntime) {
     run(
         &rt,
         &[
-            given(b"p cnf 2 2\n1 -2 0\n", 18, 17),
-            given(b"p cnf 2 1\n1 0 -2 0\n", 18, 19),
-            given(b"p cnf 2 1000000\n1 0\n", 18, 20),
+            refused(b"p cnf 2 2\n1 -2 0\n", Refusal::ClauseCount, 17),
+            refused(b"p cnf 2 1\n1 0 -2 0\n", Refusal::ClauseCount, 19),
+            refused(b"p cnf 2 1000000\n1 0\n", Refusal::ClauseCount, 20),
             // inside a clause comes first
-            given(b"p cnf 2 2\n1 0 2\n", 17, 16),
+            refused(b"p cnf 2 2\n1 0 2\n", Refusal::UnexpectedEnd, 16),
         ],
     );
 }
@@ -196,20 +223,11 @@ fn answers_and_lists(rt: HostRuntime) -> Result<(), Fail> {
 }
 
 #[test]
-fn keeps_what_was_read(rt: HostRuntime) -> Result<(), Fail> {
+fn keeps_what_was_read(rt: HostRuntime) {
     let mut list = [7i32; 4];
-    match read(b"p cnf 2 1\n1 -2 x", &mut list) {
-        Ok(_) => return Err(Fail::new("read a bad byte")),
-        Err(fault) => assert!(rt;
-            matches!(
-                fault,
-                Fault {
-                    layer: Layer::Text,
-                    ..
-                }
-            )
-        ),
-    }
+    assert_eq!(rt;
+        read(b"p cnf 2 1\n1 -2 x", &mut list),
+        Err(Fault::in_text(Refusal::UnexpectedByte, 15))
+    );
     assert_eq!(rt; list, [1, -2, 7, 7]);
-    Ok(())
 }

@@ -1,29 +1,32 @@
 -- A call from its checks to its end.
-use Rattle.std.proofs.Common.{◌≡◌, ℕ, ◌*◌, ◌<◌, ◌≤◌, Bool, true, false, cond, not, ◌&&◌, ◌||◌, eqb, List, length, take, replicate, ℤ, pos, Some, None, Ok, Err, Option, Result, sym, refl, ap, ◌∙◌, subst, arith}
+use Rattle.std.proofs.Common.{◌≡◌, ℕ, ◌*◌, ◌<◌, ◌≤◌, Bool, true, false, cond, not, ◌&&◌, ◌||◌, eqb, List, length, take, replicate, ℤ, pos, Some, None, Ok, Err, Option, Result, sym, refl, ap, ◌∙◌, subst, ap₂, arith}
 use Rattle.std.proofs.lemmas.Bool.{ltb-false, eqb-true, or_from}
 use Rattle.std.specs.Option.{option_map}
 use Rattle.fault.specs.declared.Fault.{Fault}
 use Rattle.encoder_theory.specs.Meaning.{Meaning, last_end}
 use Rattle.encoder_theory.specs.Laws.{Lawful}
-use Rattle.network_theory.specs.Layout.{Net, Conflict, Mutual, Apart, cleared}
+use Rattle.network_theory.specs.Layout.{Net, Conflict, Mutual, Apart, row_words, cleared}
 use Rattle.cover_theory.specs.Parts.{Cover, Partition}
 use Rattle.network_theory.specs.declared.Call.{Call}
 use Rattle.network_theory.specs.Runs.{Came}
-use Rattle.cover_theory.specs.Rule.{Rel, cover_of}
+use Rattle.cover_theory.specs.Rule.{Rel, cover_of, pairs_from}
+use Rattle.cover_theory.specs.Rows.{conflicts}
 use Rattle.cover_theory.specs.Lies.{conflicts_in, list_holding}
 use Rattle.cover.specs.declared.Covered.{Covered}
 use Rattle.cover.specs.Outcome.{cover_answer, cover_of_net, counts_of, work_after as coverWork, list_after as coverList, remaining_of, conflicts_of}
 use Rattle.formula_theory.specs.declared.Size.{Size}
-use Rattle.formula_theory.specs.Writing.{clause_count, auxiliary_count}
-use Rattle.formula_theory.specs.Outcome.{Terms, terms, words_fault, range_fault, list_fault, exhausted_fault, buffer_fault, buffer_short, words_short, range_unfit, list_short, exhausted, unless_refused, kept_if_refused, start, size_of, measure_answer, write_answer, write_leaves, early_refused, work_after, list_after, values_fault, broken_fault, values_unfit, are_bits, first_broken, assignment_of, complete_answer, complete_leaves, complete_early_refused}
+use Rattle.formula_theory.specs.Writing.{part_auxiliaries, over_parts, clause_count, auxiliary_count}
+use Rattle.formula_theory.specs.Outcome.{Terms, terms, words_fault, range_fault, list_fault, exhausted_fault, buffer_fault, buffer_short, words_short, range_unfit, list_short, exhausted, unless_refused, kept_if_refused, start, size_of, measure_answer, write_answer, write_leaves, work_after, list_after, values_fault, broken_fault, values_unfit, are_bits, first_broken, assignment_of, complete_answer, complete_leaves, complete_early_refused, write_refusal}
 use Rattle.formula_theory.specs.Promise.{EveryRun, AnyOther, Completed}
 use Rattle.formula_theory.proofs.Covers.{cover_partitions}
 use Rattle.formula_theory.proofs.Promised.{faithfulness}
 use Rattle.formula_theory.proofs.Completions.{completion}
-use Rattle.writing_theory.specs.Completing.{valued_answer, put_values, late_complete, completed_answer, completed_leaves}
+use Rattle.writing_theory.specs.Completing.{valued_answer, broken, put_values, late_complete, completed_answer}
 use Rattle.writing_theory.specs.declared.Numbers.{Numbers}
-use Rattle.writing_theory.specs.Covering.{numbers_of, terms_answer, covered_words, Covering, measured, put, late_write, written_answer, written_leaves}
-use Rattle.writing_theory.proofs.Ends.{covering_left, early_no, early_yes, cover_no, cover_yes, three_passed, third_refused, early_kept, cover_kept, at_covered, past_same, first_above, end_small}
+use Rattle.writing_theory.specs.Listed.{parts_of}
+use Rattle.writing_theory.specs.Covering.{numbers_of, terms_answer, covered_words, cover_in, size_in, measured, put, late_write, written_answer, written_leaves}
+use Rattle.writing_theory.proofs.Completes.{unless_err}
+use Rattle.writing_theory.proofs.Ends.{Held, held_size, held_cover, covering_left, early_no, early_yes, cover_no, cover_yes, three_passed, third_refused, early_kept, cover_kept, at_covered, past_same, first_above, end_small}
 
 module _ (n : ℕ) (ws : List ℕ) (M : Meaning) (first last : ℤ) (old : List ℕ) (ol : List ℤ) where
   abbrev net : Net
@@ -38,36 +41,10 @@ module _ (n : ℕ) (ws : List ℕ) (M : Meaning) (first last : ℤ) (old : List 
   abbrev late : Option Fault
   late = cond (exhausted M C t) (Some exhausted_fault) None
 
-  -- what a call leaves
-  pub record Left (work : List ℕ) (list : List ℤ) : Type 0 where
-    pub words_left : work ≡ work_after (early_refused n t) n C t old (covered_words net old)
-    pub list_left : list ≡ list_after (early_refused n t) C t ol
-
-  pub ends_early : (f : Fault) → Err f ≡ terms_answer n t → (Err f ≡ measure_answer n C M t) × Left old ol
-  ends_early f h =
-      let k = early_no words_fault range_fault (size_of M C) (numbers_of first last) (cond (list_short C t) (Some list_fault) late) (words_short n t) (range_unfit n t) f h in (
-        k.0,
-        record {
-          words_left = early_kept (early_refused n t) old _ k.1;
-          list_left = early_kept (early_refused n t) ol _ k.1;
-        },
-      )
-
   module _ (numbers : Numbers) (h : Ok numbers ≡ terms_answer n t) (work : List ℕ) (list : List ℤ)
       (hw : work ≡ coverWork net old (length ol)) (hl : list ≡ coverList net (length old) ol) where
     pub passed : (words_short n t ≡ false) × (range_unfit n t ≡ false) × (numbers ≡ numbers_of first last)
     passed = early_yes words_fault range_fault (numbers_of first last) numbers (words_short n t) (range_unfit n t) h
-
-    pub left_so : Left work list
-    left_so = record {
-      words_left = cover_kept (words_short n t) (range_unfit n t) old _ work passed.0 passed.1 hw;
-      list_left = cover_kept (words_short n t) (range_unfit n t) ol _ list passed.0 passed.1 hl;
-    }
-
-    pub ends_short : (f : Fault) → Err f ≡ cover_answer net (length old) (length ol) → Err f ≡ measure_answer n C M t
-    ends_short f hc =
-        let z = cover_no words_fault list_fault f (counts_of C) (words_short n t) (list_short C t) passed.0 hc in
-        third_refused words_fault range_fault list_fault f (size_of M C) late (words_short n t) (range_unfit n t) (list_short C t) passed.0 passed.1 z.0 z.1
 
     module _ (k : Covered) (hc : Ok k ≡ cover_answer net (length old) (length ol)) where
       covered : (words_short n t ≡ false) × (list_short C t ≡ false) × (k ≡ counts_of C)
@@ -75,26 +52,22 @@ module _ (n : ℕ) (ws : List ℕ) (M : Meaning) (first last : ℤ) (old : List 
 
       pub covering : Mutual net → Apart net → n ≤ 4096 → Lawful M → Partition n (Conflict net) C
           → ((u w : ℕ) → remaining_of net u w ≡ true → conflicts_of net u w ≡ true) → length list ≡ length ol
-          → Covering n M C (take k.used list) work k.remaining
+          → Held n M C (take k.used list) work k.remaining
       covering both apart few law v within el =
           let q = covered in
           let ew = at_covered (words_short n t) (list_short C t) old (cleared n old) (covered_words net old) work q.0 q.1 hw in
           let ex = at_covered (words_short n t) (list_short C t) ol (replicate (length ol) (pos 0)) (list_holding C.parts (length ol)) list q.0 q.1 hl in
-          subst (λ y. Covering n M C (take k.used list) y k.remaining) (sym ew)
+          subst (λ y. Held n M C (take k.used list) y k.remaining) (sym ew)
           (covering_left n ws both apart few M law C v within old (ltb-false _ _ q.0) list k.remaining k.used k.used refl
           (ap (λ (z : Covered). z.remaining) q.2) (ap (λ (z : Covered). z.used) q.2) refl (ex ∙ ap (list_holding C.parts) (sym el)))
 
-      pub ends_measured : (r : Result Size Fault) → r ≡ measured M C numbers → r ≡ measure_answer n C M t
-      ends_measured r e =
+      pub ends_measured : Held n M C (take k.used list) work k.remaining → (r : Result Size Fault) → r ≡ measured (size_in M (take k.used list) k.remaining) numbers → r ≡ measure_answer n C M t
+      ends_measured held r e =
           let p = passed in
           three_passed words_fault range_fault list_fault (size_of M C) late r (words_short n t) (range_unfit n t) (list_short C t) p.0 p.1 covered.1
-          (e ∙ ap (measured M C) p.2 ∙ ap (λ b. unless_refused (cond b (Some exhausted_fault) None) (size_of M C)) (past_same n first last (length old) (length ol) p.1 M C))
+          (e ∙ ap (λ s. measured s numbers) (held_size n M C (take k.used list) work k.remaining held) ∙ ap (measured (size_of M C)) p.2 ∙ ap (λ b. unless_refused (cond b (Some exhausted_fault) None) (size_of M C)) (past_same n first last (length old) (length ol) p.1 M C))
 
 -- ---- a writing
-kept_by : {X Y : Type 0} (q : Option Fault) (f : Fault) (x : X) (new old : Y) → Err f ≡ unless_refused q x → old ≡ kept_if_refused q new old
-kept_by None f x new old e = let z : ◌≡◌ {A = ℕ} 0 1 = cc in absurd (omega arith)
-kept_by (Some g) f x new old e = refl
-
 three_kept : {X : Type 0} (g h k : Fault) (new old now : X) (rest : Option Fault) (a b c : Bool) → a ≡ false → b ≡ false → c ≡ false → now ≡ kept_if_refused rest new old
     → now ≡ kept_if_refused (cond a (Some g) (cond b (Some h) (cond c (Some k) rest))) new old
 three_kept g h k new old now rest a b c ea eb ec e =
@@ -117,9 +90,8 @@ module _ (n : ℕ) (ws : List ℕ) (M : Meaning) (law : Lawful M) (first last : 
   abbrev new : List ℤ
   new = put M D (start s) out
 
-  -- what a writing answers, what it leaves in the buffer of clauses, and what it promises
+  -- what a writing leaves in the buffer of clauses, and what it promises
   pub record Writes (r : Result Size Fault) (now : List ℤ) : Type 0 where
-    pub answers : r ≡ write_answer n D M s (length out)
     pub leaves : now ≡ write_leaves n D M s out
     pub every_run : EveryRun cover_of network M s (length out) now r
     pub any_other : AnyOther cover_of network M s (length out) now r
@@ -127,12 +99,17 @@ module _ (n : ℕ) (ws : List ℕ) (M : Meaning) (law : Lawful M) (first last : 
   promised : (r : Result Size Fault) (now : List ℤ) → r ≡ write_answer n D M s (length out) → now ≡ write_leaves n D M s out → Writes r now
   promised r now e f =
       let p = faithfulness cover_of cover_partitions network M law s out now r (e, f) in
-      record { answers = e; leaves = f; every_run = p.0; any_other = p.1 }
+      record { leaves = f; every_run = p.0; any_other = p.1 }
 
+  -- refused, it leaves the buffer as it was
+  writes_refused : (f : Fault) → Err f ≡ write_answer n D M s (length out) → Writes (Err f) out
+  writes_refused f e = promised (Err f) out e (unless_err (write_refusal n D M s (length out)) f (size_of M D) new out e)
+
+  -- by the checks
   pub writes_early : (f : Fault) → Err f ≡ terms_answer n s → Writes (Err f) out
   writes_early f h =
-      let k = early_no words_fault range_fault (size_of M D) (numbers_of first last) (cond (list_short D s) (Some list_fault) late_w) (words_short n s) (range_unfit n s) f h in
-      promised (Err f) out k.0 (kept_by _ f (size_of M D) new out k.0)
+      writes_refused f
+      (early_no words_fault range_fault (size_of M D) (numbers_of first last) (cond (list_short D s) (Some list_fault) late_w) (words_short n s) (range_unfit n s) f h).0
 
   module _ (numbers : Numbers) (h : Ok numbers ≡ terms_answer n s) where
     fits : (words_short n s ≡ false) × (range_unfit n s ≡ false) × (numbers ≡ numbers_of first last)
@@ -145,27 +122,33 @@ module _ (n : ℕ) (ws : List ℕ) (M : Meaning) (law : Lawful M) (first last : 
           subst (λ (z : Numbers). z.end ≤ last_end) (sym q.2) (end_small n first last (length old) (length ol) q.1),
         )
 
+    -- by the cover
     pub writes_short : (f : Fault) → Err f ≡ cover_answer network (length old) (length ol) → Writes (Err f) out
     writes_short f hc =
         let z = cover_no words_fault list_fault f (counts_of D) (words_short n s) (list_short D s) fits.0 hc in
-        let k = third_refused words_fault range_fault list_fault f (size_of M D) late_w (words_short n s) (range_unfit n s) (list_short D s) fits.0 fits.1 z.0 z.1 in
-        promised (Err f) out k (kept_by _ f (size_of M D) new out k)
+        writes_refused f (third_refused words_fault range_fault list_fault f (size_of M D) late_w (words_short n s) (range_unfit n s) (list_short D s) fits.0 fits.1 z.0 z.1)
 
     module _ (k : Covered) (hc : Ok k ≡ cover_answer network (length old) (length ol)) where
-      same_late : late_write M D numbers (length out) ≡ late_w
+      same_late : late_write (size_of M D) numbers (length out) ≡ late_w
       same_late =
-          ap (λ (z : Numbers). late_write M D z (length out)) fits.2
+          ap (λ (z : Numbers). late_write (size_of M D) z (length out)) fits.2
           ∙ ap (λ b. cond b (Some exhausted_fault) (cond (buffer_short (2 * clause_count M D) (length out)) (Some buffer_fault) None)) (past_same n first last (length old) (length ol) fits.1 M D)
 
-      pub writes_done : (r : Result Size Fault) (now : List ℤ) → r ≡ written_answer M D numbers (length out) → now ≡ written_leaves M D numbers out → Writes r now
-      writes_done r now e f =
+      pub writes_done : (xs : List ℤ) (work : List ℕ) (remaining : ℕ) (pairs : List (ℤ × ℤ)) → Held n M D xs work remaining → pairs ≡ pairs_from (2 * n) (conflicts (2 * n) (row_words n) work) (2 * n) 0
+          → (r : Result Size Fault) (now : List ℤ) → r ≡ written_answer (size_in M xs remaining) numbers (length out)
+          → now ≡ written_leaves M (cover_in xs pairs) (size_in M xs remaining) numbers out → (r ≡ write_answer n D M s (length out)) × Writes r now
+      writes_done xs work remaining pairs held ep r now e f =
+          let es = held_size n M D xs work remaining held in
+          let ed = held_cover n M D xs work remaining held pairs ep in
           let p = fits in
           let q = cover_yes words_fault list_fault (counts_of D) k (words_short n s) (list_short D s) hc in
-          promised r now
-          (three_passed words_fault range_fault list_fault (size_of M D) late_w r (words_short n s) (range_unfit n s) (list_short D s) p.0 p.1 q.1
-          (e ∙ ap (λ z. unless_refused z (size_of M D)) same_late))
-          (three_kept words_fault range_fault list_fault new out now late_w (words_short n s) (range_unfit n s) (list_short D s) p.0 p.1 q.1
-          (f ∙ ap (λ z. kept_if_refused z (put M D numbers.first out) out) same_late ∙ ap (λ (z : Numbers). kept_if_refused late_w (put M D z.first out) out) p.2))
+          let a = three_passed words_fault range_fault list_fault (size_of M D) late_w r (words_short n s) (range_unfit n s) (list_short D s) p.0 p.1 q.1
+          (e ∙ ap (λ s. written_answer s numbers (length out)) es ∙ ap (λ z. unless_refused z (size_of M D)) same_late) in (
+            a,
+            promised r now a
+                (three_kept words_fault range_fault list_fault new out now late_w (words_short n s) (range_unfit n s) (list_short D s) p.0 p.1 q.1
+                (f ∙ ap₂ (λ E s. written_leaves M E s numbers out) ed es ∙ ap (λ z. kept_if_refused z (put M D numbers.first out) out) same_late ∙ ap (λ (z : Numbers). kept_if_refused late_w (put M D z.first out) out) p.2)),
+          )
 
 -- ---- a completion
 differs : true ≡ false → ⊥
@@ -227,7 +210,7 @@ module _ (n : ℕ) (ws : List ℕ) (M : Meaning) (law : Lawful M) (first last : 
   late_c = cond (exhausted M G v) (Some exhausted_fault) (cond (buffer_short (auxiliary_count M G) (length out)) (Some buffer_fault) (option_map broken_fault (first_broken n rel (assignment_of values))))
 
   abbrev filled : List ℕ
-  filled = put_values M G (assignment_of values) out
+  filled = put_values M G.parts (assignment_of values) out
 
   -- what a completion answers, what it leaves in every buffer, and what it promises
   pub record Completes (work : List ℕ) (list : List ℤ) (r : Result ℕ Fault) (now : List ℕ) : Type 0 where
@@ -253,7 +236,7 @@ module _ (n : ℕ) (ws : List ℕ) (M : Meaning) (law : Lawful M) (first last : 
   completes_early f h =
       let k = four_early words_fault range_fault values_fault list_fault (auxiliary_count M G) late_c (numbers_of first last) (words_short n v) (range_unfit n v) (values_unfit n values) (list_short G v) f h in
       kept_promise old ol (Err f) out k.0 (early_kept (complete_early_refused n v values) old _ k.1) (early_kept (complete_early_refused n v values) ol _ k.1)
-      (kept_by _ f (auxiliary_count M G) filled out k.0)
+      (unless_err _ f (auxiliary_count M G) filled out k.0)
 
   module _ (numbers : Numbers) (h : Ok numbers ≡ valued_answer n v values) where
     fit_values : (Ok numbers ≡ terms_answer n v) × (values_unfit n values ≡ false)
@@ -279,20 +262,29 @@ module _ (n : ℕ) (ws : List ℕ) (M : Meaning) (law : Lawful M) (first last : 
           let p = fits_all in
           let z = cover_no words_fault list_fault f (counts_of G) (words_short n v) (list_short G v) p.0 hc in
           let k = fourth_refused words_fault range_fault values_fault list_fault (auxiliary_count M G) late_c (words_short n v) (range_unfit n v) (values_unfit n values) (list_short G v) f p.0 p.1 fit_values.1 z.0 z.1 in
-          kept_promise work list (Err f) out k (as_left old _ work hw) (as_left ol _ list hl) (kept_by _ f (auxiliary_count M G) filled out k)
+          kept_promise work list (Err f) out k (as_left old _ work hw) (as_left ol _ list hl) (unless_err _ f (auxiliary_count M G) filled out k)
 
       module _ (k : Covered) (hc : Ok k ≡ cover_answer given_net (length old) (length ol)) where
-        same_end : late_complete n rel M G numbers values (length out) ≡ late_c
+        abbrev last_c : Option Fault
+        last_c = broken (2 * n) rel (assignment_of values)
+
+        same_end : late_complete (auxiliary_count M G) numbers (length out) last_c ≡ late_c
         same_end =
-            ap (λ (z : Numbers). late_complete n rel M G z values (length out)) fits_all.2
+            ap (λ (z : Numbers). late_complete (auxiliary_count M G) z (length out) last_c) fits_all.2
             ∙ ap (λ b. cond b (Some exhausted_fault) (cond (buffer_short (auxiliary_count M G) (length out)) (Some buffer_fault) (option_map broken_fault (first_broken n rel (assignment_of values)))))
             (past_same n first last (length old) (length ol) fits_all.1 M G)
 
-        pub completes_done : (r : Result ℕ Fault) (now : List ℕ) → r ≡ completed_answer n rel M G numbers values (length out) → now ≡ completed_leaves n rel M G numbers values out
+        pub completes_done : (xs : List ℤ) (held : List ℕ) (remaining : ℕ) → Held n M G xs held remaining
+            → (r : Result ℕ Fault) (now : List ℕ) → r ≡ completed_answer (over_parts (part_auxiliaries M) (parts_of xs)) numbers (length out) last_c
+            → now ≡ kept_if_refused (late_complete (over_parts (part_auxiliaries M) (parts_of xs)) numbers (length out) last_c) (put_values M (parts_of xs) (assignment_of values) out) out
             → Completes work list r now
-        completes_done r now e f =
+        completes_done xs held remaining h r now e f =
             let p = fits_all in
             let q = cover_yes words_fault list_fault (counts_of G) k (words_short n v) (list_short G v) hc in
             let all = same_end
             ∙ four_passed words_fault range_fault values_fault list_fault (auxiliary_count M G) late_c (words_short n v) (range_unfit n v) (values_unfit n values) (list_short G v) p.0 p.1 fit_values.1 q.1 in
-            kept_promise work list r now (e ∙ ap (λ z. unless_refused z (auxiliary_count M G)) all) (as_left old _ work hw) (as_left ol _ list hl) (f ∙ ap (λ z. kept_if_refused z filled out) all)
+            kept_promise work list r now
+            (e ∙ ap (λ Ps. completed_answer (over_parts (part_auxiliaries M) Ps) numbers (length out) last_c) h.parts ∙ ap (λ z. unless_refused z (auxiliary_count M G)) all)
+            (as_left old _ work hw) (as_left ol _ list hl)
+            (f ∙ ap (λ Ps. kept_if_refused (late_complete (over_parts (part_auxiliaries M) Ps) numbers (length out) last_c) (put_values M Ps (assignment_of values) out) out) h.parts
+            ∙ ap (λ z. kept_if_refused z filled out) all)

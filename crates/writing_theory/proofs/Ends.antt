@@ -1,26 +1,49 @@
 -- From the answers of the checks and of the cover to the answer of a call, and to what it leaves.
-use Rattle.std.proofs.Common.{◌≡◌, ℕ, zero, suc, ◌-◌, ◌*◌, ◌<◌, ◌≤◌, Bool, true, false, cond, ◌&&◌, ◌||◌, leb, List, ◌++◌, length, take, drop, replicate, ℤ, pos, negsuc, ◌+ℤ◌, nat_abs, Some, Ok, Err, Option, Result, sym, refl, ap, ◌∙◌, ap₂, ⊎_elim, mul-le-mul, arith}
+use Rattle.std.proofs.Common.{◌≡◌, ℕ, zero, suc, ◌+◌, ◌-◌, ◌*◌, ◌<◌, ◌≤◌, Bool, true, false, cond, ◌&&◌, ◌||◌, leb, List, ◌++◌, length, take, drop, replicate, ℤ, pos, negsuc, ◌+ℤ◌, nat_abs, Some, Ok, Err, Option, Result, sym, refl, ap, ◌∙◌, subst, ap₂, ⊎_elim, mul-le-mul, arith}
 use lib.Signed.{lt_z, le_z}
 use Rattle.std.proofs.lemmas.Int.{ints}
 use Rattle.std.proofs.lemmas.List.{take_at}
 use Rattle.std.proofs.lemmas.Bool.{and_parts, and_from, ltb-false, le-leb, cases_lt}
 use Rattle.fault.specs.declared.Fault.{Fault}
 use Rattle.logic.specs.Literal.{is_literal, index}
+use Rattle.logic.specs.Clause.{In}
 use Rattle.logic.proofs.Literals.{is_literal_decides}
 use Rattle.encoder_theory.specs.Meaning.{Meaning, last_end}
 use Rattle.encoder_theory.specs.Laws.{Lawful}
-use Rattle.network_theory.specs.Layout.{Net, Conflict, Mutual, Apart, words_needed, stands}
+use Rattle.network_theory.specs.Layout.{Net, Conflict, Mutual, Apart, row_words, words_needed, stands}
 use Rattle.cover_theory.specs.Parts.{Cover, Partition}
 use Rattle.cover_theory.specs.Rule.{covering, cover_of, pairs_from}
+use Rattle.cover_theory.specs.Rows.{conflicts, Fit}
 use Rattle.cover_theory.specs.Lies.{conflicts_in, words_holding, numbers, list_holding}
-use Rattle.formula_theory.specs.Writing.{auxiliary_count, clause_count}
+use Rattle.formula_theory.specs.Writing.{part_size, part_auxiliaries, over_parts, auxiliary_count, clause_count}
 use Rattle.formula_theory.specs.Faithful.{Conflicts, Told}
-use Rattle.formula_theory.specs.Outcome.{terms, most_auxiliary, range_unfit, exhausted, unless_refused}
+use Rattle.formula_theory.specs.Outcome.{terms, most_auxiliary, range_unfit, exhausted, unless_refused, size_of}
 use Rattle.formula_theory.proofs.Counts.{account_balances}
 use Rattle.formula_theory.proofs.Counted.{conflicts_counted, few_auxiliaries}
-use Rattle.writing_theory.specs.Listed.{most_total}
-use Rattle.writing_theory.specs.Covering.{numbers_of, Covering, past_end}
+use Rattle.writing_theory.specs.Listed.{parts_of, most_total}
+use Rattle.writing_theory.specs.Covering.{numbers_of, Covering, cover_in, size_in, past_end}
+use Rattle.writing_theory.proofs.Parts.{parts_read}
 use Rattle.writing_theory.proofs.Covers.{held_fit, held_conflicts, remains_below, remains_loose}
+
+-- the list xs and the work words hold the cover C, of which `remaining` conflicts remain
+pub record Held (n : ℕ) (M : Meaning) (C : Cover) (xs : List ℤ) (work : List ℕ) (remaining : ℕ) : Type 0 where
+  pub covering : Covering n M xs remaining
+  pub parts : parts_of xs ≡ C.parts
+  pub fit : Fit (2 * n) (row_words n) work
+  pub left : pairs_from (2 * n) (conflicts (2 * n) (row_words n) work) (2 * n) 0 ≡ C.remaining
+  pub counted : remaining ≡ length C.remaining
+
+module _ (n : ℕ) (M : Meaning) (C : Cover) (xs : List ℤ) (work : List ℕ) (remaining : ℕ) (h : Held n M C xs work remaining) where
+  pub held_size : size_in M xs remaining ≡ size_of M C
+  held_size =
+      let a = ap (over_parts (part_size M)) h.parts in
+      let b = ap (over_parts (part_auxiliaries M)) h.parts in
+      let c = h.counted in
+      let d : over_parts (part_size M) (parts_of xs) + remaining ≡ clause_count M C = omega arith in
+      ap₂ (λ k j. record { clauses = k; auxiliaries = j }) d b
+
+  pub held_cover : (pairs : List (ℤ × ℤ)) → pairs ≡ pairs_from (2 * n) (conflicts (2 * n) (row_words n) work) (2 * n) 0 → cover_in xs pairs ≡ C
+  held_cover pairs e = ap₂ (λ Ps Rs. record { parts = Ps; remaining = Rs }) h.parts (e ∙ h.left)
 
 -- ---- how much a cover takes
 module _ (n : ℕ) (ws : List ℕ) where
@@ -39,7 +62,7 @@ module _ (n : ℕ) (ws : List ℕ) where
   tells : (p q : ℤ) → Conflict network p q → Told test p q
   tells p q h = and_from (is_literal n p) _ ((is_literal_decides n p).1 h.0) (and_from (is_literal n q) _ ((is_literal_decides n q).1 h.1) h.2)
 
-  module _ (both : Mutual network) (apart : Apart network) (few : n ≤ 4096) (M : Meaning) (law : Lawful M) (C : Cover) (v : Partition n (Conflict network) C) where
+  module _ (both : Mutual network) (apart : Apart network) (few-variables : n ≤ 4096) (M : Meaning) (law : Lawful M) (C : Cover) (v : Partition n (Conflict network) C) where
     as_told : Partition n (Told test) C
     as_told = record {
       sound = v.sound;
@@ -72,24 +95,29 @@ module _ (n : ℕ) (ws : List ℕ) where
     pub covering_left : ((u w : ℕ) → (covering (2 * n) (conflicts_in n ws)).0 u w ≡ true → conflicts_in n ws u w ≡ true)
         → (old : List ℕ) → words_needed n ≤ length old → (xs : List ℤ) (remaining used k : ℕ) → C ≡ cover_of n (conflicts_in n ws) → remaining ≡ length C.remaining → used ≡ length (numbers C.parts)
         → k ≡ used → xs ≡ list_holding C.parts (length xs)
-        → Covering n M C (take k xs) (words_holding n (covering (2 * n) (conflicts_in n ws)).0 ++ drop (words_needed n) old) remaining
+        → Held n M C (take k xs) (words_holding n (covering (2 * n) (conflicts_in n ws)).0 ++ drop (words_needed n) old) remaining
     covering_left within old room xs remaining used k is er eu ek ex =
         let rel = (covering (2 * n) (conflicts_in n ws)).0 in
         let t = takes_little in
         let below = remains_below n ws apart rel within in
         let loose = remains_loose n ws apart rel within in
         let lk : length (numbers C.parts) ≡ k = sym eu ∙ sym ek in
+        let e = parts_read n (take k xs) C.parts v.sound
+        (ap (take k) ex ∙ take_at (numbers C.parts) (replicate (length xs - length (numbers C.parts)) (pos 0)) k lk) in
+        let few : over_parts (part_size M) (parts_of (take k xs)) + remaining ≤ most_total = omega (arith, t.0, er, ap (over_parts (part_size M)) e) in
         record {
-          listed = record {
-            lie = ap (take k) ex ∙ take_at (numbers C.parts) (replicate (length xs - length (numbers C.parts)) (pos 0)) k lk;
-            sound = v.sound;
-            few_clauses = omega (arith, t.0);
-            few_auxiliaries = t.1;
+          covering = record {
+            listed = record {
+              sound = λ P i. v.sound P (subst (In P) e i);
+              few_clauses = omega arith;
+              few_auxiliaries = omega (arith, t.1, ap (over_parts (part_auxiliaries M)) e);
+            };
+            few = few;
           };
-          fit = held_fit n rel old room few below loose;
-          left = ap (λ (D : Cover). D.remaining) is ∙ ap (λ r. pairs_from (2 * n) r (2 * n) 0) (sym (held_conflicts n rel old room few below loose));
+          parts = e;
+          fit = held_fit n rel old room few-variables below loose;
+          left = ap (λ r. pairs_from (2 * n) r (2 * n) 0) (held_conflicts n rel old room few-variables below loose) ∙ sym (ap (λ (D : Cover). D.remaining) is);
           counted = er;
-          few = t.0;
         }
 
 -- ---- the order of refusals
@@ -185,7 +213,7 @@ module _ (n : ℕ) (first last : ℤ) (w l : ℕ) (fit : range_unfit n (terms fi
   end_pos : last +ℤ pos 1 ≡ pos (nat_abs (last +ℤ pos 1))
   end_pos = (end_is (last +ℤ pos 1) (nat_abs first) (ap (lt_z (last +ℤ pos 1)) (sym first_pos) ∙ three)).0
 
-  pub past_same : (M : Meaning) (C : Cover) → past_end M C (numbers_of first last) ≡ exhausted M C (terms first last w l)
+  pub past_same : (M : Meaning) (C : Cover) → past_end (auxiliary_count M C) (numbers_of first last) ≡ exhausted M C (terms first last w l)
   past_same M C = sym (ap₂ (λ x y. lt_z x (y +ℤ pos (auxiliary_count M C))) end_pos first_pos)
 
   pub end_small : nat_abs (last +ℤ pos 1) ≤ last_end

@@ -1,4 +1,5 @@
-pub mod Walks
+pub mod Still
+pub mod Parts
 pub mod Puts
 pub mod Rests
 pub mod Values

@@ -1,229 +1,182 @@
--- Putting the clauses of parts into a buffer, one part after another.
-use Rattle.std.proofs.Common.{◌≡◌, ℕ, zero, suc, ◌+◌, ◌*◌, ◌<◌, ◌≤◌, List, [], ◌∷◌, ◌++◌, map, length, get_or, take, drop, ℤ, pos, sym, refl, ap, ◌∙◌, subst, inl, inr, append_assoc, arith}
-use Rattle.std.proofs.lemmas.List.{append-nil, length-map, drop_at, drop-drop, take_at, take_more, map_push, take_all, length-take-le}
+-- Putting the clauses of parts, and the values of their auxiliaries, one part after another.
+use Rattle.std.proofs.Common.{◌≡◌, ℕ, ◌+◌, ◌*◌, ◌^◌, ◌<◌, ◌≤◌, List, [], ◌∷◌, ◌++◌, map, length, get_or, drop, ℤ, pos, is_some, Ok, Option, sym, refl, ap, ◌∙◌, subst, inl, inr, add-one, drop-cons, arith, length-append}
+use Rattle.std.specs.List.{All}
+use Rattle.std.proofs.lemmas.List.{length-map, map-append}
+use Rattle.filling.specs.Filled.{Filled, after, extended}
+use Rattle.filling.proofs.Extended.{extended_fits}
 use Rattle.logic.specs.Literal.{variable, Literal}
-use Rattle.logic.specs.Clause.{In, Clause, flat}
+use Rattle.logic.specs.Clause.{Clause, against, Assignment, In, flat}
 use Rattle.logic.proofs.Clauses.{length_flat, flat_append}
-use Rattle.encoder_theory.specs.Members.{member}
-use Rattle.encoder_theory.specs.Meaning.{Meaning, Admits, last_end}
+use Rattle.encoder_theory.specs.Buffer.{byte}
+use Rattle.encoder_theory.specs.Meaning.{Meaning, Admits, last_end, most_members}
+use Rattle.encoder_theory.specs.Members.{Within}
 use Rattle.encoder_theory.specs.Laws.{Lawful}
-use Rattle.encoder_theory.specs.Buffer.{with_clause, with_block}
+use Rattle.encoder_theory.specs.Calls.{write_answer, values_answer}
+use Rattle.encoder_theory.specs.Appended.{clauses_appended, values_appended}
+use Rattle.encoder_theory.proofs.Appended.{clauses_granted, values_granted}
 use Rattle.cover_theory.specs.Parts.{Part, clique, biclique, Sound, Cover}
-use Rattle.formula_theory.specs.declared.Size.{Size}
-use Rattle.formula_theory.specs.Writing.{chosen, part_size, part_auxiliaries, over_parts, part_clauses}
+use Rattle.formula_theory.specs.Writing.{chosen, implication, biclique_clauses, part_size, part_auxiliaries, over_parts, part_clauses, true_place, part_values, values_from}
 use Rattle.formula_theory.proofs.Pieces.{clique_admitted}
-use Rattle.formula_theory.proofs.Counts.{length_written}
-use Rattle.cover.specs.Walk.{placed}
+use Rattle.formula_theory.proofs.Counts.{length_written, length_part}
+use Rattle.formula_theory.proofs.Models.{length_values, length_part as length_part_values}
+use Rattle.cover.specs.Walk.{parts_in}
 use Rattle.cover.specs.declared.Part.{Part as Placed}
-use Rattle.cover.specs.declared.Part.TheVariants.{Clique, Biclique}
-use Rattle.writing_theory.specs.Listed.{Stands, Listed, takes, ends, parts_clauses, Walked, Next, read_part, SoundBelow, Writable, PutSoFar}
-use Rattle.encoder_theory.proofs.Blocks.{block_none, block_more, block_clause, length_block}
-use Rattle.writing_theory.proofs.Walks.{over_append, over_push, turn, turn_is, turn_ends, turn_clauses, turn_auxiliaries, next_sound, next_over, next_stands, walk_next, walk_start, walk_end}
+use Rattle.writing_theory.specs.Listed.{parts_clauses, read_part, read_parts, parts_of, Inside, Moderate, SoundBelow, Writable}
+use Rattle.writing_theory.proofs.Parts.{inside_from, moderate_read}
+use Rattle.writing_theory.proofs.Values.{literals_in, some_place}
+use Rattle.writing_theory.proofs.Still.{Still, still_start, still_end, still_is, still_room, still_on, still_extended}
 
 -- ---- a clause for each number of a list
-pub each_step : (f : ℤ → Clause) (xs : List ℤ) (i at : ℕ) (old buf : List ℤ) → i < length xs → at + 2 * length xs ≤ length old
-    → buf ≡ with_block old at (flat (map f (take i xs))) → with_clause buf (at + 2 * i) (f (get_or xs i (pos 0))) ≡ with_block old at (flat (map f (take (i + 1) xs)))
-each_step f xs i at old buf l room e =
-    let B = flat (map f (take i xs)) in
-    let c = f (get_or xs i (pos 0)) in
-    let n : length B ≡ 2 * i = length_flat (map f (take i xs)) ∙ ap (λ k. 2 * k) (length-map (take i xs) f ∙ length-take-le i xs (omega arith)) in
-    let lb : length buf ≡ length old = ap length e ∙ length_block old B at (omega arith) in
-    let g : flat (map f (take (i + 1) xs)) ≡ B ++ flat (c ∷ []) =
-    ap (λ ys. flat (map f ys)) (take_more xs i (pos 0) l) ∙ ap flat (map_push f (take i xs) (get_or xs i (pos 0))) ∙ flat_append (map f (take i xs)) (c ∷ []) in
-    block_clause buf (at + 2 * i) c (omega arith)
-    ∙ ap (λ ys. with_block ys (at + 2 * i) (flat (c ∷ []))) e
-    ∙ block_more old B (flat (c ∷ [])) at (at + 2 * i) (omega arith) (omega arith)
-    ∙ ap (with_block old at) (sym g)
+module _ (F : Filled ℤ) (all : List ℤ) (f : ℤ → Clause) (xs : List ℤ) (i : ℕ) (l : i < length xs) (R : List Clause) where
+  abbrev c : Clause
+  c = f (get_or xs i (pos 0))
 
-pub each_end : (f : ℤ → Clause) (xs : List ℤ) (i at : ℕ) (old buf : List ℤ) → length xs ≤ i
-    → buf ≡ with_block old at (flat (map f (take i xs))) → buf ≡ with_block old at (flat (map f xs))
-each_end f xs i at old buf l e = e ∙ ap (λ ys. with_block old at (flat (map f ys))) (take_all i xs l)
+  pub each_on : (g h : Filled ℤ) → Still F all g (flat (map f (drop i xs) ++ R)) → h ≡ extended g (c.0 ∷ c.1 ∷ []) → Still F all h (flat (map f (drop (i + 1) xs) ++ R))
+  each_on g h s e =
+      still_extended F all g (c.0 ∷ c.1 ∷ []) (flat (map f (drop (i + 1) xs) ++ R))
+      (still_is F all g _ _ (ap (λ ys. flat (map f ys ++ R)) (drop-cons xs i (pos 0) l ∙ ap (λ k. get_or xs i (pos 0) ∷ drop k xs) (sym (add-one i)))) s) h e
 
--- ---- reading a part back
-pub clique_read : (xs : List ℤ) (at : ℕ) (ms : List ℤ) → Stands xs at (clique ms) → take (length ms) (drop (at + 1) xs) ≡ ms
-clique_read xs at ms s =
-    ap (take (length ms)) (sym (drop-drop 1 at xs) ∙ ap (drop 1) s.ahead) ∙ take_at ms s.after (length ms) refl
+pub biclique_room : (ls rs : List ℤ) (z room : ℕ) → 2 * (length ls + length rs) ≤ room → length (flat (biclique_clauses ls rs (pos z))) ≤ room
+biclique_room ls rs z room h =
+    omega (
+      arith,
+      length_flat (biclique_clauses ls rs (pos z)),
+      length-append (map (λ a. implication a (pos z)) ls) (map (λ b. against (pos z) b) rs),
+      length-map ls (λ a. implication a (pos z)),
+      length-map rs (λ b. against (pos z) b),
+    )
 
-pub read_placed : (xs : List ℤ) (at : ℕ) (P : Part ℤ) → Stands xs at P → read_part xs (placed at P) ≡ P
-read_placed xs at (clique ms) s = ap clique (clique_read xs at ms s)
-read_placed xs at (biclique ls rs) s =
-    let d : drop (at + 2) xs ≡ ls ++ (rs ++ s.after) = sym (drop-drop 2 at xs) ∙ ap (drop 2) s.ahead ∙ append_assoc ls rs s.after in
-    let a : take (length ls) (drop (at + 2) xs) ≡ ls = ap (take (length ls)) d ∙ take_at ls _ (length ls) refl in
-    let b : take (length rs) (drop (at + 2 + length ls) xs) ≡ rs =
-    ap (take (length rs)) (sym (drop-drop (length ls) (at + 2) xs) ∙ ap (drop (length ls)) d ∙ drop_at ls _ (length ls) refl) ∙ take_at rs _ (length rs) refl in
-    let right = take (length rs) (drop (at + 2 + length ls) xs) in
-    ap (λ ys. biclique ys right) a ∙ ap (λ ys. biclique ls ys) b
-
--- a part by its place and sizes
-pub read_clique : (xs : List ℤ) (p : Placed) (place size k : ℕ) → p ≡ Clique place size → size ≡ k → read_part xs p ≡ clique (take k (drop place xs))
-read_clique xs p place size k is ek = ap (read_part xs) is ∙ ap (λ j. clique (take j (drop place xs))) ek
-
-pub read_biclique : (xs : List ℤ) (p : Placed) (place left right j k : ℕ) → p ≡ Biclique place left right → left ≡ j → right ≡ k
-    → read_part xs p ≡ biclique (take j (drop place xs)) (take k (drop (place + left) xs))
-read_biclique xs p place left right j k is ej ek =
-    ap (read_part xs) is ∙ ap (λ i. biclique (take i (drop place xs)) (take right (drop (place + left) xs))) ej
-    ∙ ap (λ i. biclique (take j (drop place xs)) (take i (drop (place + left) xs))) ek
-
--- the part that a walk comes to
-module _ (n : ℕ) (M : Meaning) (Ps : List (Part ℤ)) (xs : List ℤ) (ok : Listed n M Ps xs) (at : ℕ) (Here : List (Part ℤ) → Type 0) (l : at < length xs)
-    (w : Walked Ps xs at Here) (p : Placed) (read : (P : Part ℤ) → Stands xs at P → p ≡ placed at P) where
-  abbrev here : Next Ps xs at Here
-  here = turn n M Ps xs ok at Here l w
-
-  pub turn_read : read_part xs p ≡ here.part
-  turn_read = ap (read_part xs) (turn_is n M Ps xs ok at Here l w p read) ∙ read_placed xs at here.part (next_stands n M Ps xs ok at Here here)
-
-  pub turn_sound : Sound n (read_part xs p)
-  turn_sound = subst (Sound n) (sym turn_read) (next_sound n M Ps xs ok at Here here)
-
--- ---- one more part
-pub clauses_push : (M : Meaning) (done : List (Part ℤ)) (P : Part ℤ) (first : ℕ)
-    → parts_clauses M (done ++ P ∷ []) first ≡ parts_clauses M done first ++ part_clauses M P (first + over_parts (part_auxiliaries M) done)
-clauses_push M [] P first = let z : first ≡ first + 0 = omega arith in append-nil (part_clauses M P first) ∙ ap (part_clauses M P) z
-clauses_push M (Q ∷ done) P first =
-    let z : first + part_auxiliaries M Q + over_parts (part_auxiliaries M) done ≡ first + (part_auxiliaries M Q + over_parts (part_auxiliaries M) done) = omega arith in
-    ap (λ L. part_clauses M Q first ++ L) (clauses_push M done P (first + part_auxiliaries M Q))
-    ∙ ap (λ k. part_clauses M Q first ++ (parts_clauses M done (first + part_auxiliaries M Q) ++ part_clauses M P k)) z
-    ∙ sym (append_assoc (part_clauses M Q first) (parts_clauses M done (first + part_auxiliaries M Q)) _)
-
-pub in_front : (done rest : List (Part ℤ)) (P : Part ℤ) → In P done → In P (done ++ rest)
-in_front [] rest P h = elim h [ ]
-in_front (Q ∷ done) rest P (inl e) = inl e
-in_front (Q ∷ done) rest P (inr h) = inr (in_front done rest P h)
-
-module _ (n : ℕ) (M : Meaning) (law : Lawful M) (Ps : List (Part ℤ)) (xs : List ℤ) (first : ℕ) (old : List ℤ) (ok : Writable n M Ps xs first (length old)) where
-  pub puts_start : Walked Ps xs 0 (PutSoFar M first old 0 first old)
-  puts_start = walk_start Ps xs (PutSoFar M first old 0 first old) ok.listed.lie record { spot_is = refl; next_is = omega arith; out_is = block_none old 0 }
-
-  length_done : (done rest : List (Part ℤ)) → Ps ≡ done ++ rest → length (flat (parts_clauses M done first)) ≡ 2 * over_parts (part_size M) done
-  length_done done rest e =
-      let C : Cover = record { parts = done; remaining = [] } in
-      let a = ap (over_parts (part_auxiliaries M)) e ∙ over_append (part_auxiliaries M) done rest in
-      let f = ok.fits in
-      let b = length_written M law n C (λ P h. ok.listed.sound P (subst (λ Qs. In P Qs) (sym e) (in_front done rest P h))) first record { above = ok.above; fits = omega arith } in
-      let c = length_flat (parts_clauses M done first) in omega arith
-
-  module _ (at spot next : ℕ) (out : List ℤ) (l : at < length xs) (w : Walked Ps xs at (PutSoFar M first old spot next out))
-      (p : Placed) (read : (P : Part ℤ) → Stands xs at P → p ≡ placed at P) where
-    abbrev nx : Next Ps xs at (PutSoFar M first old spot next out)
-    nx = turn n M Ps xs ok.listed at (PutSoFar M first old spot next out) l w
-
-    pub puts_read : read_part xs p ≡ nx.part
-    puts_read = turn_read n M Ps xs ok.listed at (PutSoFar M first old spot next out) l w p read
-
-    pub puts_sound : SoundBelow next (read_part xs p)
-    puts_sound =
-        let e = nx.here.next_is in
-        let a = ok.above in
-        (n, omega arith, turn_sound n M Ps xs ok.listed at (PutSoFar M first old spot next out) l w p read)
-
-    pub puts_fits : next + part_auxiliaries M (read_part xs p) ≤ last_end
-    puts_fits =
-        let e = nx.here.next_is in
-        let f = ok.fits in
-        let a = next_over n M Ps xs ok.listed at (PutSoFar M first old spot next out) nx (part_auxiliaries M) in
-        let r = ap (part_auxiliaries M) puts_read in omega arith
-
-    pub puts_room : spot + 2 * part_size M (read_part xs p) ≤ length old
-    puts_room =
-        let e = nx.here.spot_is in
-        let f = ok.enough in
-        let a = next_over n M Ps xs ok.listed at (PutSoFar M first old spot next out) nx (part_size M) in
-        let r = ap (part_size M) puts_read in omega arith
-
-    pub puts_length : length out ≡ length old
-    puts_length =
-        let e = nx.here.out_is in
-        let d = length_done nx.done (nx.part ∷ nx.rest) nx.all in
-        let s = nx.here.spot_is in
-        let r = puts_room in
-        ap length e ∙ length_block old (flat (parts_clauses M nx.done first)) 0 (omega arith)
-
-    pub puts_within : (s : Size) → s ≡ takes M p → (spot + 2 * s.clauses ≤ length old) × (next + s.auxiliaries ≤ last_end)
-    puts_within s told =
-        let H = PutSoFar M first old spot next out in
-        let ec = turn_clauses n M Ps xs ok.listed at H l w p read s told in
-        let ea = turn_auxiliaries n M Ps xs ok.listed at H l w p read s told in
-        let rc = ap (part_size M) puts_read in
-        let ra = ap (part_auxiliaries M) puts_read in
-        let a = puts_room in
-        let b = puts_fits in (omega arith, omega arith)
-
-    pub puts_on : (s : Size) → s ≡ takes M p → (to : ℕ) → to ≡ ends p → (out' : List ℤ) → out' ≡ with_block out spot (flat (part_clauses M (read_part xs p) next))
-        → Walked Ps xs to (PutSoFar M first old (spot + 2 * s.clauses) (next + s.auxiliaries) out')
-    puts_on s told to et out' e =
-        let H = PutSoFar M first old spot next out in
-        let P = nx.part in
-        let done = nx.done in
-        let B = flat (parts_clauses M done first) in
-        let ec = turn_clauses n M Ps xs ok.listed at H l w p read s told in
-        let ea = turn_auxiliaries n M Ps xs ok.listed at H l w p read s told in
-        let hs = nx.here.spot_is in
-        let hn = nx.here.next_is in
-        let pc = over_push (part_size M) done P in
-        let pa = over_push (part_auxiliaries M) done P in
-        let d = length_done done (P ∷ nx.rest) nx.all in
-        let room = puts_room in
-        let g : flat (parts_clauses M (done ++ P ∷ []) first) ≡ B ++ flat (part_clauses M (read_part xs p) next) =
-        ap flat (clauses_push M done P first) ∙ flat_append (parts_clauses M done first) _
-        ∙ ap (λ k. B ++ flat (part_clauses M P k)) (sym hn) ∙ ap (λ Q. B ++ flat (part_clauses M Q next)) (sym puts_read) in
-        walk_next Ps xs at to H (PutSoFar M first old (spot + 2 * s.clauses) (next + s.auxiliaries) out') nx (et ∙ turn_ends n M Ps xs ok.listed at H l w p read)
-        record {
-          spot_is = omega arith;
-          next_is = omega arith;
-          out_is = e ∙ ap (λ ys. with_block ys spot (flat (part_clauses M (read_part xs p) next))) nx.here.out_is
-              ∙ block_more old B (flat (part_clauses M (read_part xs p) next)) 0 spot (omega arith) (omega arith) ∙ ap (with_block old 0) (sym g);
-        }
-
-  pub puts_end : (at spot next : ℕ) (out : List ℤ) → length xs ≤ at → Walked Ps xs at (PutSoFar M first old spot next out) → out ≡ with_block old 0 (flat (parts_clauses M Ps first))
-  puts_end at spot next out l w = (walk_end Ps xs at (PutSoFar M first old spot next out) l w).out_is
-
--- the two lists of a biclique, one after the other
-pub sides_put : (f g : ℤ → Clause) (ls rs : List ℤ) (at : ℕ) (old mid new : List ℤ) → at + 2 * (length ls + length rs) ≤ length old
-    → mid ≡ with_block old at (flat (map f ls)) → new ≡ with_block mid (at + 2 * length ls) (flat (map g rs)) → new ≡ with_block old at (flat (map f ls ++ map g rs))
-sides_put f g ls rs at old mid new room e h =
-    let n : length (flat (map f ls)) ≡ 2 * length ls = length_flat (map f ls) ∙ ap (λ k. 2 * k) (length-map ls f) in
-    h ∙ ap (λ ys. with_block ys (at + 2 * length ls) (flat (map g rs))) e
-    ∙ block_more old (flat (map f ls)) (flat (map g rs)) at (at + 2 * length ls) (omega arith) (omega arith)
-    ∙ ap (with_block old at) (sym (flat_append (map f ls) (map g rs)))
-
-small_literals : (n first : ℕ) (xs : List ℤ) → n < first → first ≤ last_end → ((p : ℤ) → In p xs → Literal n p) → (i : ℕ) → i < length xs → variable (get_or xs i (pos 0)) ≤ last_end
-small_literals n first [] a f h i l = absurd (omega arith)
-small_literals n first (x ∷ xs) a f h zero l = let b = (h x (inl refl)).1 in omega arith
-small_literals n first (x ∷ xs) a f h (suc i) l = small_literals n first xs a f (λ p m. h p (inr m)) i (omega arith)
-
-pub sides_small : (first : ℕ) (ls rs : List ℤ) → SoundBelow first (biclique ls rs) → first ≤ last_end
-    → ((i : ℕ) → i < length ls → variable (member ls i) ≤ last_end) × ((i : ℕ) → i < length rs → variable (member rs i) ≤ last_end)
-sides_small first ls rs s f = (small_literals s.0 first ls s.1 f s.2.0, small_literals s.0 first rs s.1 f s.2.1)
+-- what a part's literals are fit for
+pub sides_small : (first : ℕ) (ls rs : List ℤ) → SoundBelow first (biclique ls rs) → first ≤ last_end → All (λ a. variable a ≤ last_end) ls × All (λ b. variable b ≤ last_end) rs
+sides_small first ls rs s f = (small ls s.2.0, small rs s.2.1)
+  where
+    small : (xs : List ℤ) → ((p : ℤ) → In p xs → Literal s.0 p) → All (λ a. variable a ≤ last_end) xs
+    small xs h i d l = omega (arith, (literals_in s.0 xs h i d l).1, s.1)
 
 pub clique_admits : (M : Meaning) (first : ℕ) (xs : List ℤ) → SoundBelow first (clique xs) → first + part_auxiliaries M (clique xs) ≤ last_end → Admits (chosen M (length xs)) xs first
 clique_admits M first xs s f = clique_admitted M s.0 first xs s.2 s.1 f
 
--- a part by its place and sizes: what its literals are fit for
-module _ (M : Meaning) (first : ℕ) (xs : List ℤ) (p : Placed) (s : SoundBelow first (read_part xs p)) (f : first + part_auxiliaries M (read_part xs p) ≤ last_end) where
-  module _ (place size k : ℕ) (is : p ≡ Clique place size) (ek : size ≡ k) where
-    same_clique : read_part xs p ≡ clique (take k (drop place xs))
-    same_clique = read_clique xs p place size k is ek
+-- ---- the parts ps are still to be written into g, with auxiliaries from `next` on
+module _ (M : Meaning) (xs : List ℤ) (first : ℕ) (f : Filled ℤ) where
+  pub record Putting (ps : List Placed) (next : ℕ) (g : Filled ℤ) : Type 0 where
+    pub still : Still f (flat (parts_clauses M (parts_of xs) first)) g (flat (parts_clauses M (read_parts xs ps) next))
+    pub inside : Inside xs ps
+    pub ready : (n : ℕ) × Writable n M (read_parts xs ps) next
 
-    pub placed_admits : Admits (chosen M (length (take k (drop place xs)))) (take k (drop place xs)) first
-    placed_admits = clique_admits M first (take k (drop place xs)) (subst (SoundBelow first) same_clique s) (subst (λ P. first + part_auxiliaries M P ≤ last_end) same_clique f)
+  module _ (law : Lawful M) where
+    pub putting_start : (n : ℕ) × Writable n M (parts_of xs) first → 2 * over_parts (part_size M) (parts_of xs) ≤ length f.rest → Putting (parts_in xs) first f
+    putting_start w h = record {
+      still = still_start f (flat (parts_clauses M (parts_of xs) first))
+          (let C : Cover = record { parts = parts_of xs; remaining = [] } in
+          let a = length_written M law w.0 C w.1.sound first record { above = w.1.above; fits = w.1.fits } in
+          let b = length_flat (parts_clauses M (parts_of xs) first) in omega arith);
+      inside = inside_from xs (length xs) 0;
+      ready = w;
+    }
 
-    pub placed_room : (at room : ℕ) → at + 2 * part_size M (read_part xs p) ≤ room → at + 2 * part_size M (clique (take k (drop place xs))) ≤ room
-    placed_room at room h = subst (λ P. at + 2 * part_size M P ≤ room) same_clique h
+    module _ (p : Placed) (ps : List Placed) (next : ℕ) (g : Filled ℤ) (w : Putting (p ∷ ps) next g) where
+      abbrev P : Part ℤ
+      P = read_part xs p
 
-  module _ (place left right j k : ℕ) (is : p ≡ Biclique place left right) (ej : left ≡ j) (ek : right ≡ k) where
-    same_biclique : read_part xs p ≡ biclique (take j (drop place xs)) (take k (drop (place + left) xs))
-    same_biclique = read_biclique xs p place left right j k is ej ek
+      abbrev n : ℕ
+      n = w.ready.0
 
-    one : first + 1 ≤ last_end
-    one = subst (λ P. first + part_auxiliaries M P ≤ last_end) same_biclique f
+      pub next_sound : SoundBelow next P
+      next_sound = (n, w.ready.1.above, w.ready.1.sound P (inl refl))
 
-    pub placed_small : ((i : ℕ) → i < length (take j (drop place xs)) → variable (member (take j (drop place xs)) i) ≤ last_end)
-        × ((i : ℕ) → i < length (take k (drop (place + left) xs)) → variable (member (take k (drop (place + left) xs)) i) ≤ last_end) × (first ≤ last_end)
-    placed_small =
-        let o = one in
-        let b = sides_small first (take j (drop place xs)) (take k (drop (place + left) xs)) (subst (SoundBelow first) same_biclique s) (omega arith) in
-        (b.0, b.1, omega arith)
+      pub next_moderate : length xs < 2 ^ 64 → Moderate p
+      next_moderate h = moderate_read n xs p w.inside.0 h (w.ready.1.sound P (inl refl))
 
-    pub sides_room : (at room : ℕ) → at + 2 * part_size M (read_part xs p) ≤ room → at + 2 * (length (take j (drop place xs)) + length (take k (drop (place + left) xs))) ≤ room
-    sides_room at room h = subst (λ P. at + 2 * part_size M P ≤ room) same_biclique h
+      pub next_fits : next + part_auxiliaries M P ≤ last_end
+      next_fits = let h = w.ready.1.fits in omega arith
+
+      split : flat (parts_clauses M (P ∷ read_parts xs ps) next) ≡ flat (part_clauses M P next) ++ flat (parts_clauses M (read_parts xs ps) (next + part_auxiliaries M P))
+      split = flat_append (part_clauses M P next) (parts_clauses M (read_parts xs ps) (next + part_auxiliaries M P))
+
+      pub next_room : 2 * part_size M P ≤ length g.rest
+      next_room =
+          let a = still_room f _ g (flat (part_clauses M P next)) _ (still_is f _ g _ _ split w.still) in
+          let b = length_part M law n next w.ready.1.above P (w.ready.1.sound P (inl refl)) next_fits in
+          let c = length_flat (part_clauses M P next) in omega arith
+
+      pub putting_on : (later : ℕ) (h : Filled ℤ) → later ≡ next + part_auxiliaries M P → h ≡ after g (flat (part_clauses M P next)) → Putting ps later h
+      putting_on later h el eh = record {
+        still = still_on f _ g (flat (part_clauses M P next)) _
+            (still_is f _ g _ _ (split ∙ ap (λ k. flat (part_clauses M P next) ++ flat (parts_clauses M (read_parts xs ps) k)) (sym el)) w.still) h eh;
+        inside = w.inside.1;
+        ready = (
+          n,
+          record {
+            sound = λ Q i. w.ready.1.sound Q (inr i);
+            above = let a = w.ready.1.above in omega arith;
+            fits = let a = w.ready.1.fits in omega arith;
+          },
+        );
+      }
+
+  pub putting_end : (next : ℕ) (g : Filled ℤ) → Putting [] next g → g ≡ after f (flat (parts_clauses M (parts_of xs) first))
+  putting_end next g w = still_end f _ g w.still
+
+-- ---- the values of the auxiliaries of the parts ps are still to be put into g
+module _ (M : Meaning) (xs : List ℤ) (n : ℕ) (s : Assignment) (f : Filled ℕ) where
+  pub record Valuing (ps : List Placed) (g : Filled ℕ) : Type 0 where
+    pub still : Still f (map byte (values_from M s (parts_of xs))) g (map byte (values_from M s (read_parts xs ps)))
+    pub inside : Inside xs ps
+    pub sound : (P : Part ℤ) → In P (read_parts xs ps) → Sound n P
+
+  module _ (law : Lawful M) where
+    pub valuing_start : ((P : Part ℤ) → In P (parts_of xs) → Sound n P) → over_parts (part_auxiliaries M) (parts_of xs) ≤ length f.rest → Valuing (parts_in xs) f
+    valuing_start o h = record {
+      still = still_start f (map byte (values_from M s (parts_of xs)))
+          (omega (arith, length-map (values_from M s (parts_of xs)) byte, length_values M law n s (parts_of xs) o));
+      inside = inside_from xs (length xs) 0;
+      sound = o;
+    }
+
+    module _ (p : Placed) (ps : List Placed) (g : Filled ℕ) (w : Valuing (p ∷ ps) g) where
+      abbrev Q : Part ℤ
+      Q = read_part xs p
+
+      parted : map byte (values_from M s (Q ∷ read_parts xs ps)) ≡ map byte (part_values M s Q) ++ map byte (values_from M s (read_parts xs ps))
+      parted = map-append byte (part_values M s Q) (values_from M s (read_parts xs ps))
+
+      pub valued_sound : Sound n Q
+      valued_sound = w.sound Q (inl refl)
+
+      pub valued_room : part_auxiliaries M Q ≤ length g.rest
+      valued_room =
+          let a = still_room f _ g (map byte (part_values M s Q)) _ (still_is f _ g _ _ parted w.still) in
+          omega (arith, length-map (part_values M s Q) byte, length_part_values M law n s Q valued_sound)
+
+      pub valuing_on : (h : Filled ℕ) → h ≡ after g (map byte (part_values M s Q)) → Valuing ps h
+      valuing_on h eh = record {
+        still = still_on f _ g (map byte (part_values M s Q)) _ (still_is f _ g _ _ parted w.still) h eh;
+        inside = w.inside.1;
+        sound = λ R i. w.sound R (inr i);
+      }
+
+  pub valuing_end : (g : Filled ℕ) → Valuing [] g → g ≡ after f (map byte (values_from M s (parts_of xs)))
+  valuing_end g w = still_end f _ g w.still
+
+-- ---- an encoder's call that is admitted and has room is not declined
+module _ (N M : Meaning) (e : N ≡ M) where
+  pub clauses_ok : (xs : List ℤ) (first : ℕ) (f : Filled ℤ) → Admits M xs first → 2 * M.clauses (length xs) ≤ length f.rest
+      → (write_answer N xs (pos first) f.rest ≡ Ok tt) × (clauses_appended N xs (pos first) f ≡ after f (flat (M.list xs first)))
+  clauses_ok xs first f a r =
+      let k = clauses_granted M xs first f a r in
+      (ap (λ E. write_answer E xs (pos first) f.rest) e ∙ k.0, ap (λ E. clauses_appended E xs (pos first) f) e ∙ k.1)
+
+  pub values_ok : (m : ℕ) (t : Option ℕ) (f : Filled ℕ) → m ≤ most_members → Within t m → M.auxiliaries m ≤ length f.rest
+      → (values_answer N m t f.rest ≡ Ok tt) × (values_appended N m t f ≡ after f (map byte (M.values m t)))
+  values_ok m t f a w r =
+      let k = values_granted M m t f a w r in
+      (ap (λ E. values_answer E m t f.rest) e ∙ k.0, ap (λ E. values_appended E m t f) e ∙ k.1)
+
+-- a biclique's one value
+pub side_put : (M : Meaning) (s : Assignment) (P : Part ℤ) (ls rs : List ℤ) (o : Option ℕ) (f g : Filled ℕ) → P ≡ biclique ls rs → o ≡ true_place s ls → part_auxiliaries M P ≤ length f.rest
+    → g ≡ extended f (byte (is_some o) ∷ []) → g ≡ after f (map byte (part_values M s P))
+side_put M s P ls rs o f g e h room k =
+    let r : 1 ≤ length f.rest = subst (λ Q. part_auxiliaries M Q ≤ length f.rest) e room in
+    k ∙ extended_fits f (byte (is_some o) ∷ []) r
+    ∙ ap (λ b. after f (byte b ∷ [])) (ap is_some h ∙ sym (some_place s ls))
+    ∙ ap (λ Q. after f (map byte (part_values M s Q))) (sym e)

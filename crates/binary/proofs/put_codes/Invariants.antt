@@ -1,13 +1,12 @@
-use Rattle.std.proofs.Common.{List, ℤ}
-use Rattle.encoder_theory.proofs.Grids.{RowsPut, CellsPut}
-use Rattle.encoder_theory.proofs.BinaryPut.{code_grid}
+use Rattle.std.proofs.Common.{◌≡◌}
+use Rattle.logic.specs.Clause.{flat}
+use Rattle.filling.specs.Filled.{after}
+use Rattle.filling.specs.Views.{filled}
+use Rattle.encoder_theory.proofs.BinaryPut.{codes_before}
 use Rattle.binary.proofs.put_codes.Given as goal
 
--- whatever the buffer was, it is as far as this if it was as far as that where the loop began
 abbrev pub invariant-loop-l : goal.invariant-loop-l
-invariant-loop-l l =
-    (old : List ℤ) → CellsPut (code_grid l.members l.first) l.i 0 old l.initial.out l.initial.at
-    → CellsPut (code_grid l.members l.first) l.i l.l old l.out l.at
+invariant-loop-l l = filled l.out ≡ after (filled l.fn.out) (flat (codes_before l.members l.first l.i l.l))
 
 abbrev pub invariant-loop-i : goal.invariant-loop-i
-invariant-loop-i l = RowsPut (code_grid l.members l.first) l.i l.initial.out l.out l.at
+invariant-loop-i l = filled l.out ≡ after (filled l.fn.out) (flat (codes_before l.members l.first l.i 0))

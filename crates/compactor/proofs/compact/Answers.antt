@@ -1,14 +1,9 @@
 use Rattle.std.proofs.Common.{◌≡◌, ◌++◌, length, take, drop, vec_items, ap, ◌∙◌, rules}
 use Rattle.std.proofs.lemmas.List.{take_at}
-use Rattle.std.proofs.lemmas.Result.{IfOk-from_err, IfOk-weaker}
+use Rattle.std.proofs.lemmas.Result.{IfOk-weaker}
 use Rattle.compactor.specs.Printed.{outcome}
 use Rattle.compactor.proofs.Rewrites.{ok_prints, err_prints, prints_keep}
 use Rattle.compactor.proofs.compact.Goals as goal
-
-pub returns-in_err-out : goal.returns-in_err-out
-returns-in_err-out c =
-    let e = c.from_residual-in_err-out.ensures.0 in
-    record { prints = IfOk-from_err c.from_residual-in_err-out.result _ e; keeps = IfOk-from_err c.from_residual-in_err-out.result _ e }
 
 pub rewrite-requires : goal.rewrite-requires
 rewrite-requires c = (c.as_mut_slice.ensures.value ∙ c.in_ok-numbers.ensures.items_if_clones_equal (λ y h. search rules), search rules)

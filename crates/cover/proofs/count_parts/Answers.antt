@@ -1,27 +1,22 @@
-use Rattle.std.proofs.Common.{sym, arith}
-use Rattle.cover.proofs.Walks.{turn_room, turn_walks, turn_counts, walk_begins, walk_ends, count_begins, count_ends}
+use Rattle.std.proofs.Common.{◌≡◌, length, ap, ◌∙◌, arith}
+use Rattle.cover.specs.Left.{parts_left}
+use Rattle.cover.specs.Walk.{cliques_in, bicliques_in, parts_in, summed}
+use Rattle.cover.proofs.Walks.{parts_few, parts_read}
 use Rattle.cover.proofs.count_parts.Goals as goal
 
-pub loop-part-preserved : goal.loop-part-preserved
-loop-part-preserved c =
-    let r = turn_room c.args.list.now c.loop-part.at c.loop-part.cliques c.loop-part.bicliques c.in-Some.part c.end-at.result c.cliques-cliques.result c.cliques.result
-    c.in-Some.ensures c.cliques-cliques.ensures c.cliques.ensures c.end-at.ensures c.loop-part.invariant.1 in (
-      r.0,
-      r.1,
-      λ Ps z s q. turn_walks c.args.list.now c.loop-part.at c.loop-part.cliques c.loop-part.bicliques c.in-Some.part c.end-at.result c.cliques-cliques.result c.cliques.result
-          c.in-Some.ensures c.cliques-cliques.ensures c.cliques.ensures c.end-at.ensures z Ps (c.loop-part.invariant.2 Ps z s q),
-      turn_counts c.args.list.now c.loop-part.at c.loop-part.cliques c.loop-part.bicliques c.in-Some.part c.end-at.result c.cliques-cliques.result c.cliques.result
-          c.in-Some.ensures c.cliques-cliques.ensures c.cliques.ensures c.end-at.ensures c.loop-part.invariant.3,
+pub loop-part-init : goal.loop-part-init
+loop-part-init c =
+    let e : parts_left c.into_iter-part-iterator.result ≡ parts_in c.args.list.now = ap parts_left c.into_iter-part-iterator.ensures.into_iter_gives ∙ c.new-part-items.ensures in (
+      tt,
+      tt,
+      omega (arith, ap length e, parts_few c.args.list.now (length c.args.list.now) 0),
+      omega (arith, ap (summed cliques_in) e),
+      omega (arith, ap (summed bicliques_in) e),
     )
 
-pub loop-part-init : goal.loop-part-init
-loop-part-init c = (omega arith, omega arith, λ Ps z s q. walk_begins c.args.list.now z Ps s q, count_begins c.args.list.now)
-
-pub returns : goal.returns
-returns c =
-    let n = sym c.in_default.ensures in
-    let k = count_ends c.args.list.now c.loop-part.at c.loop-part.cliques c.loop-part.bicliques c.loop-part.invariant.3 n in
-    record {
-      value = cc;
-      reads = λ Ps z s q. walk_ends c.args.list.now c.loop-part.at c.loop-part.cliques c.loop-part.bicliques z Ps (c.loop-part.invariant.2 Ps z s q) n;
-    }
+pub returns-clause-reads : goal.returns-clause-reads
+returns-clause-reads c Ps z s e =
+    let none = c.in-None.ensures.steps.0 in
+    let read = parts_read c.args.list.now Ps z s e in
+    let i = c.loop-part.invariant in
+    (omega (arith, i.3, read.0, ap (summed cliques_in) none), omega (arith, i.4, read.1, ap (summed bicliques_in) none))

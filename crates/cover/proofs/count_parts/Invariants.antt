@@ -1,15 +1,12 @@
-use Rattle.std.proofs.Common.{◌≡◌, ℕ, ◌+◌, ◌-◌, ◌≤◌, List, ◌++◌, length, replicate, ℤ, pos}
-use Rattle.cover_theory.specs.Parts.{Part as PartOf}
-use Rattle.cover_theory.specs.Lies.{numbers}
-use Rattle.cover_theory.specs.Rows.{Sized}
-use Rattle.cover.proofs.Walks.{Walked, Counting}
+use Rattle.std.proofs.Common.{◌≡◌, ◌+◌, ◌≤◌, length}
+use Rattle.cover.specs.Walk.{cliques_in, bicliques_in, parts_in, summed}
+use Rattle.cover.specs.Left.{parts_left}
 use Rattle.cover.proofs.count_parts.Given as goal
 
 abbrev pub invariant-loop-part : goal.invariant-loop-part
 invariant-loop-part l =
-    (l.at ≤ length l.list) × (l.cliques + l.bicliques ≤ l.at)
-    × ((Ps : List (PartOf ℤ)) (z : ℕ) → Sized Ps → l.list ≡ numbers Ps ++ replicate z (pos 0) → Walked l.list l.at l.cliques l.bicliques z Ps)
-    × Counting l.list l.at l.cliques l.bicliques
-
-abbrev pub decreases-loop-part : goal.decreases-loop-part
-decreases-loop-part l = length l.list - l.at
+    (goal.iterator-loop-part).can_next l.part-iterator
+    × (goal.iterator-loop-part).is_finite l.part-iterator
+    × (l.cliques + l.bicliques + length (parts_left l.part-iterator) ≤ length l.list)
+    × (l.cliques + summed cliques_in (parts_left l.part-iterator) ≡ summed cliques_in (parts_in l.list))
+    × (l.bicliques + summed bicliques_in (parts_left l.part-iterator) ≡ summed bicliques_in (parts_in l.list))

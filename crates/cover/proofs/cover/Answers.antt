@@ -13,8 +13,8 @@ cover_words-requires c =
     let net = c.args.net.now in
     let e : net_of net.matrix ≡ net_in c.variables.result c.words.result.now = λ i. record { variables = sym c.variables.ensures i; words = sym c.words.ensures i } in
     record {
-      size = (subst (λ (X : Net). X.variables ≤ most_variables) e net.few, subst (λ (X : Net). words_needed X.variables ≤ length X.words) e net.room);
-      network = (subst Mutual e net.mutual, (subst Apart e net.apart, subst Trimmed e net.trimmed));
+      size = (subst (λ (X : Net). X.variables ≤ most_variables) e net.matrix.few, subst (λ (X : Net). words_needed X.variables ≤ length X.words) e net.matrix.room);
+      network = (subst Mutual e net.matrix.mutual, (subst Apart e net.matrix.apart, subst Trimmed e net.matrix.trimmed));
     }
 
 pub returns : goal.returns
@@ -25,8 +25,8 @@ returns c =
       answer = c.cover_words.ensures.answer ∙ ap (λ (X : Net). cover_answer X (length c.args.work.now) (length c.args.list.now)) e;
       words = c.cover_words.ensures.words ∙ ap (λ (X : Net). work_after X c.args.work.now (length c.args.list.now)) e;
       list = c.cover_words.ensures.list ∙ ap (λ (X : Net). list_after X (length c.args.work.now) c.args.list.now) e;
-      partition = net_partition net.matrix.variables net.matrix.words.now net.mutual net.apart;
-      within = net_within net.matrix.variables net.matrix.words.now net.mutual net.apart;
+      partition = net_partition net.matrix.variables net.matrix.words.now net.matrix.mutual net.matrix.apart;
+      within = net_within net.matrix.variables net.matrix.words.now net.matrix.mutual net.matrix.apart;
       ended = (covering_ends (2 * net.matrix.variables) (conflicts_of (net_of net.matrix)), grown_settles);
       alone = λ words h. net_alone net.matrix.variables net.matrix.words.now words h;
     }

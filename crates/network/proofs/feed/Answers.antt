@@ -20,5 +20,8 @@ network-is c =
 came : (c : goal.After-seal) → Came (net_of c.seal.result.matrix) c.args.calls.now
 came c = record { asked = c.args.n; lent = c.args.words.now; led = network-is c }
 
-pub returns : goal.returns
-returns c = record { network = network-is c; came = came c; exact = came_exact _ _ (came c) }
+pub returns-clause-network : goal.returns-clause-network
+returns-clause-network c = network-is c
+
+pub returns-clause-exact : goal.returns-clause-exact
+returns-clause-exact c = came_exact _ _ (came c)

@@ -1,36 +1,13 @@
-use Rattle.std.proofs.Common.{◌≡◌, arith, rules}
-use Rattle.logic.specs.Clause.{against}
-use Rattle.encoder_theory.specs.Members.{member}
-use Rattle.encoder_theory.proofs.Grids.{rows_begin, row_begin, cell_room, cell_put, row_end, rows_end}
-use Rattle.encoder_theory.proofs.PairwisePut.{pair_grid, pair_grid_length}
+use Rattle.std.proofs.Common.{rules}
+use Rattle.encoder_theory.proofs.PairwisePut.{small_later, pair_next, pairs_end}
 use Rattle.pairwise.proofs.put_pairs.Goals as goal
 
-pub loop-i-init : goal.loop-i-init
-loop-i-init c = let e = pair_grid_length c.args.members.now in rows_begin (pair_grid c.args.members.now) c.args.out.now (omega (arith, c.requires.room))
-
-pub overflow_add-at : goal.overflow_add-at
-overflow_add-at c =
-    let G = pair_grid c.args.members.now in
-    let old = c.args.out.now in
-    let r = cell_room G c.loop-i.i c.loop-j.j old c.loop-j.out c.loop-j.at c.loop-j-test.true
-    (c.loop-j.invariant old (row_begin G c.loop-i.i old c.loop-i.out c.loop-i.at c.loop-i-test.true c.loop-i.invariant)) in
-    search rules
-
-pub loop-j-preserved : goal.loop-j-preserved
-loop-j-preserved c = λ old h.
+pub loop-b-preserved : goal.loop-b-preserved
+loop-b-preserved c =
     let xs = c.args.members.now in
-    let e : c.exclusion.result ≡ against (member xs c.loop-i.i) (member xs c.loop-j.j) = search rules in
-    cell_put (pair_grid xs) c.loop-i.i c.loop-j.j old c.loop-j.out c.put_clause.new.out c.loop-j.at c.exclusion.result c.loop-j-test.true e
-    c.put_clause.ensures (c.loop-j.invariant old h)
+    let a = c.requires.small c.loop-i.i c.loop-i-test.true in
+    let b = small_later xs c.requires.small c.loop-i.i c.loop-b.b-index c.loop-b-test.true in
+    pair_next xs c.loop-i.i c.loop-b.b-index _ _ _ _ c.loop-i-test.true c.loop-b-test.true (search rules) c.loop-b.invariant c.push_clause.ensures c.requires.room
 
 pub loop-i-preserved : goal.loop-i-preserved
-loop-i-preserved c =
-    let G = pair_grid c.args.members.now in
-    let old = c.args.out.now in
-    row_end G c.loop-i.i c.loop-j.j old c.loop-j.out c.loop-j.at c.loop-j-test.false
-    (c.loop-j.invariant old (row_begin G c.loop-i.i old c.loop-i.out c.loop-i.at c.loop-i-test.true c.loop-i.invariant))
-
-pub returns : goal.returns
-returns c =
-    let xs = c.args.members.now in
-    rows_end (pair_grid xs) c.loop-i.i _ c.args.out.now c.loop-i.out c.loop-i.at c.loop-i-test.false (pair_grid_length xs) c.loop-i.invariant
+loop-i-preserved c = pairs_end c.args.members.now c.loop-i.i c.loop-b.b-index _ _ c.loop-b.auto.b-index-end c.loop-b-test.false c.loop-b.invariant

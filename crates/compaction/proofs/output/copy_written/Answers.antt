@@ -1,23 +1,30 @@
-use Rattle.std.proofs.Common.{ℕ, ◌+◌, ◌*◌, ◌<◌, List, ◌++◌, map, length, get_or, ℤ, pos, vec_items, ap, ◌∙◌, arith, w32, SFits, rules}
-use Rattle.std.proofs.lemmas.Int.{to_z-of_z}
-use Rattle.std.proofs.lemmas.List.{take_all}
-use Rattle.logic.specs.Clause.{Clause}
-use Rattle.dimacs.specs.Clauses.{numbers}
-use Rattle.compaction_theory.specs.Printed.{literals_of}
-use Rattle.compaction_theory.proofs.Output.{clause_more}
+use Rattle.std.proofs.Common.{◌≡◌, ◌*◌, List, [], ◌∷◌, ◌++◌, take, ℤ, pos, vec_items, sym, ap, ◌∙◌, subst, arith}
+use Rattle.std.specs.Slice.Iter.{chunks_exact_rest, chunks_exact_size}
+use Rattle.compaction_theory.specs.Walks.{Closed}
+use Rattle.compaction_theory.proofs.Output.{closed_first, closed_more, closed_all}
 use Rattle.compaction.proofs.output.copy_written.Goals as goal
 
-pub loop-i-preserved : goal.loop-i-preserved
-loop-i-preserved c W rest count w =
-    let i : ℕ = c.loop-i.i in
-    let written : List ℤ = c.args.written.now in
-    let less : i < length W = omega (arith, c.loop-i-test.true) in
-    let fits-x : SFits w32 (get_or written (2 * i) (pos 0)) = search rules in
-    let fits-y : SFits w32 (get_or written (2 * i + 1) (pos 0)) = search rules in
-    simp to_z-of_z at c.in_ok-push_clause.ensures
-    ∙ clause_more (vec_items c.args.out.now) (vec_items c.loop-i.out) W rest written i less w (c.loop-i.invariant W rest count w)
+pub loop-clause-init : goal.loop-clause-init
+loop-clause-init c =
+    let out : List ℤ = vec_items c.args.out.now in
+    let made = c.into_iter-clause-iterator.ensures.into_iter_gives in
+    let rest : chunks_exact_rest c.into_iter-clause-iterator.result ≡ take (2 * c.args.clauses) c.args.written.now =
+    ap chunks_exact_rest made ∙ c.chunks_exact-clause-items.ensures.rest in (
+      ap chunks_exact_size made ∙ c.chunks_exact-clause-items.ensures.size,
+      λ W others count w. subst (λ (l : List ℤ). Closed W l out out) (sym rest) (closed_first W others c.args.written.now out c.args.clauses count w),
+    )
+
+pub loop-clause-preserved : goal.loop-clause-preserved
+loop-clause-preserved c =
+    let steps = c.in-Some.ensures.steps in
+    let size = c.loop-clause.invariant.0 in (
+      steps.0 ∙ size,
+      λ W rest count w.
+          closed_more W _ _ _ _ _ _ (c.loop-clause.invariant.1 W rest count w) steps.1.0 (steps.1.1 ∙ size)
+          (c.in_ok-push.ensures.items ∙ ap (λ (l : List ℤ). l ++ pos 0 ∷ []) c.in_ok-extend_from_slice.ensures.items),
+    )
 
 pub returns : goal.returns
 returns c W rest count w =
-    c.loop-i.invariant W rest count w
-    ∙ ap (λ (V : List Clause). vec_items c.args.out.now ++ numbers (map literals_of V)) (take_all c.loop-i.i W (omega (arith, c.loop-i-test.false)))
+    let few = c.in-None.ensures.steps.1.0 in
+    closed_all W _ _ _ (c.loop-clause.invariant.1 W rest count w) (omega (arith, c.loop-clause.invariant.0))

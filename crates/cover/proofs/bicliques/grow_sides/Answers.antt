@@ -1,24 +1,17 @@
-use Rattle.std.proofs.Common.{ap, ◌∙◌, arith}
+use Rattle.std.proofs.Common.{ap, ◌∙◌}
 use Rattle.cover_theory.specs.Rule.{Sides, widen, started_by}
-use Rattle.cover_theory.specs.Rows.{conflicts}
 use Rattle.cover_theory.proofs.Degrees.{fullest_is}
+use Rattle.cover.specs.Views.{rel_of}
 use Rattle.cover.proofs.bicliques.grow_sides.Goals as goal
 
-pub widen_sides-requires : goal.widen_sides-requires
-widen_sides-requires c = record {
-  fit = (c.requires.fit.0, (c.requires.fit.1.0, c.requires.fit.1.1.0));
-  room = (omega arith, omega arith);
-  degrees = (c.requires.degrees.0, c.requires.degrees.1);
-  neat = (c.start_sides.ensures.left_neat, c.start_sides.ensures.right_neat);
-}
-
 pub returns : goal.returns
-returns c = record {
-  left_neat = c.widen_sides.ensures.neat.0;
-  right_neat = c.widen_sides.ensures.neat.1;
-  sides = c.widen_sides.ensures.sides
-      ∙ ap (λ (s : Sides). widen c.args.count (conflicts c.args.count c.args.rows c.args.words.now) c.args.count s)
-      (c.start_sides.ensures.sides
-      ∙ ap (λ x. started_by c.args.count (conflicts c.args.count c.args.rows c.args.words.now) x)
-      (c.fullest-c.ensures.value ∙ fullest_is c.args.count (conflicts c.args.count c.args.rows c.args.words.now) c.args.degrees.now c.requires.fit.1.0 c.requires.degrees.1));
-}
+returns c =
+    let N = c.args.rows.now.count in
+    let rel = rel_of c.args.rows.now in
+    record {
+      left_neat = c.widen_sides.ensures.left;
+      right_neat = c.widen_sides.ensures.right;
+      sides = c.widen_sides.ensures.sides
+          ∙ ap (λ (s : Sides). widen N rel N s)
+          (c.start_sides.ensures.sides ∙ ap (λ x. started_by N rel x) (c.fullest.ensures.value ∙ fullest_is N rel c.args.degrees.now c.requires.some c.requires.degrees));
+    }

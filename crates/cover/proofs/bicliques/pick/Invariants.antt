@@ -1,11 +1,10 @@
 use Rattle.std.proofs.Common.{◌≡◌, ◌-◌, ◌<◌}
-use Rattle.cover_theory.specs.Rule.{score, chosen, first_best}
-use Rattle.cover_theory.specs.Rows.{conflicts, held}
+use Rattle.cover_theory.specs.Rule.{score, first_best}
+use Rattle.cover_theory.specs.Rows.{held}
+use Rattle.cover.specs.Views.{rel_of}
 use Rattle.cover.proofs.bicliques.pick.Given as goal
 
 abbrev pub invariant-loop-c : goal.invariant-loop-c
 invariant-loop-c l =
-    (l.best < l.count)
-    × (l.top ≡ score l.count (conflicts l.count l.rows l.words) (held l.count l.a) (held l.count l.b) l.best)
-    × (first_best (score l.count (conflicts l.count l.rows l.words) (held l.count l.a) (held l.count l.b)) (l.count - l.c) l.c l.best
-    ≡ chosen l.count (conflicts l.count l.rows l.words) (held l.count l.a) (held l.count l.b))
+    let sc = score l.rows.count (rel_of l.rows) (held l.rows.count l.sides.left.words) (held l.rows.count l.sides.right.words) in
+    (l.best < l.rows.count) × (l.top ≡ sc l.best) × (first_best sc (l.rows.count - l.c) l.c l.best ≡ first_best sc l.rows.count 0 0)

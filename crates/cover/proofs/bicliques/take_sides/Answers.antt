@@ -1,24 +1,28 @@
-use Rattle.std.proofs.Common.{◌+◌, take, sym, ◌∙◌, arith}
-use Rattle.std.proofs.lemmas.Bool.{and_left, ltb-true, ltb-false}
-use Rattle.std.proofs.lemmas.List.{length-append, length-take-le}
-use Rattle.cover_theory.specs.Rule.{without_sides}
-use Rattle.cover_theory.specs.Rows.{conflicts, held, listed, sides_part}
-use Rattle.cover_theory.proofs.Pairs.{length_sides, severed, part_went}
+use Rattle.std.proofs.Common.{length, ap, arith}
+use Rattle.filling.specs.Filled.{Filled}
+use Rattle.filling.specs.Views.{filled}
+use Rattle.std.proofs.Common.{ℤ}
+use Rattle.cover_theory.specs.Rows.{listed, sides_part}
+use Rattle.cover_theory.proofs.Pairs.{sides_short, length_sides}
+use Rattle.cover.proofs.Moves.{on_none}
 use Rattle.cover.proofs.bicliques.take_sides.Goals as goal
 
-pub returns-then-lacks_room : goal.returns-then-lacks_room
-returns-then-lacks_room c =
-    let short = ltb-true _ _ (sym c.if-lacks_room.ensures) in
-    omega (arith, length-append (take c.args.at c.args.list.now) (listed (sides_part c.args.count c.args.a.now c.args.b.now)), length_sides c.args.count c.args.a.now c.args.b.now, length-take-le c.args.at c.args.list.now c.requires.fit.1.1.0, c.requires.sizes.0, c.requires.sizes.1.0)
+pub returns-in_err-has_room : goal.returns-in_err-has_room
+returns-in_err-has_room c =
+    let N = c.args.remaining.now.count in
+    let A = c.args.sides.now.left.words in
+    let B = c.args.sides.now.right.words in
+    on_none _ _ _ c.from_residual.ensures (sides_short N A B (filled c.args.list.now).put c.args.x c.args.y (length (filled c.args.list.now).rest) c.requires.left.0 c.requires.right.0 c.in_err-has_room.ensures)
 
 pub returns : goal.returns
 returns c =
-    let room = ltb-false _ _ (sym c.if-lacks_room.ensures) in
-    part_went c.args.count c.args.rows c.args.words.now c.sever.new.words c.args.list.now c.emit_sides.new.list c.args.at (c.args.at + c.args.x + c.args.y + 2)
-    (sides_part c.args.count c.args.a.now c.args.b.now) (without_sides (conflicts c.args.count c.args.rows c.args.words.now) (held c.args.count c.args.a.now, held c.args.count c.args.b.now))
-    c.requires.fit.0 (omega arith)
-    (λ a j p r h. c.sever.ensures.gone a j p r ∙ and_left _ _ h)
-    (severed c.args.words.now c.sever.new.words c.args.a.now c.args.b.now c.args.count c.args.rows c.requires.fit.0.small c.sever.ensures.gone)
-    c.sever.ensures.rest (omega arith)
-    (omega (arith, length_sides c.args.count c.args.a.now c.args.b.now, c.requires.sizes.0, c.requires.sizes.1.0))
-    c.emit_sides.ensures
+    let N = c.args.remaining.now.count in
+    let A = c.args.sides.now.left.words in
+    let B = c.args.sides.now.right.words in
+    record {
+      shape = c.sever.ensures.shape;
+      state = λ i. (c.sever.ensures.left i, ap (λ (f : Filled ℤ). f.put) c.emit_sides.ensures i);
+      added = listed (sides_part N A B);
+      fits = omega (arith, length_sides N A B, c.requires.left.0, c.requires.right.0, c.in_ok-has_room.ensures);
+      list = c.emit_sides.ensures;
+    }

@@ -1,28 +1,22 @@
-use Rattle.std.proofs.Common.{◌≡◌, ◌+◌, ◌<◌, map, length, get_or, set, pos, sym, ap, ◌∙◌, arith, length-set, w32, SFits, to_z, of_z, rules}
-use Rattle.std.proofs.lemmas.Int.{to_z-of_z, to_z_pos}
-use Rattle.std.proofs.lemmas.List.Edits.{paste_none, paste_more}
-use Rattle.std.proofs.lemmas.List.{get_or-map, length-map}
+use Rattle.std.proofs.Common.{◌≡◌, ◌+◌, [], ◌∷◌, ◌++◌, map, length, get_or, take, pos, sym, ap, ◌∙◌, arith, w32, SFits, to_z, of_z, rules}
+use Rattle.std.proofs.lemmas.Int.{to_z-of_z}
+use Rattle.std.proofs.lemmas.List.{take_more, length-append, length-map, length-take-le, map-append}
+use Rattle.filling.specs.Filled.{after}
+use Rattle.filling.specs.Views.{filled}
+use Rattle.filling.proofs.Extended.{extended_step}
 use Rattle.logic.specs.Literal.{literal}
-use lib.Seq.{paste}
-use Rattle.cover_theory.proofs.Writes.{emitted}
 use Rattle.cover.proofs.cliques.emit.Goals as goal
 
-pub loop-i-init : goal.loop-i-init
-loop-i-init c = paste_none (set c.args.list.now c.args.at (to_z w32 c.args.k)) (c.args.at + 1) (map literal c.args.members.now)
-
-pub loop-i-preserved : goal.loop-i-preserved
-loop-i-preserved c =
+pub loop-u-preserved : goal.loop-u-preserved
+loop-u-preserved c =
+    let ms = c.args.members.now in
+    let i = c.loop-u.u-index in
     let f : SFits w32 c.literal_of.result = search rules in
-    let g : to_z w32 (of_z w32 c.literal_of.result) ≡ get_or (map literal c.args.members.now) c.loop-i.i (pos 0) =
-    to_z-of_z w32 c.literal_of.result f ∙ c.literal_of.ensures ∙ sym (get_or-map literal c.args.members.now c.loop-i.i 0 (pos 0) (omega arith)) in
-    let len : length (map literal c.args.members.now) ≡ length c.args.members.now = length-map c.args.members.now literal in
-    let room : c.args.at + 1 + c.loop-i.i < length (set c.args.list.now c.args.at (to_z w32 c.args.k)) = simp length-set (omega arith) in
-    ap (λ z. set z (c.args.at + 1 + c.loop-i.i) (to_z w32 (of_z w32 c.literal_of.result))) c.loop-i.invariant
-    ∙ ap (λ z. set (paste (set c.args.list.now c.args.at (to_z w32 c.args.k)) (c.args.at + 1) (map literal c.args.members.now) c.loop-i.i) (c.args.at + 1 + c.loop-i.i) z) g
-    ∙ paste_more (set c.args.list.now c.args.at (to_z w32 c.args.k)) (c.args.at + 1) (map literal c.args.members.now) c.loop-i.i (pos 0) room (omega arith)
-
-pub returns : goal.returns
-returns c =
-    let e : c.loop-i.i ≡ c.args.k = omega arith in
-    c.loop-i.invariant ∙ ap (λ n. paste (set c.args.list.now c.args.at (to_z w32 c.args.k)) (c.args.at + 1) (map literal c.args.members.now) n) e
-    ∙ emitted c.args.list.now c.args.members.now c.args.at c.args.k (to_z w32 c.args.k) (to_z_pos w32 c.args.k (omega arith)) (omega arith) (omega arith)
+    let z : to_z w32 (of_z w32 c.literal_of.result) ≡ literal (get_or ms i 0) = to_z-of_z w32 c.literal_of.result f ∙ c.literal_of.ensures in
+    let len : length (map literal (take i ms)) ≡ i = length-map (take i ms) literal ∙ length-take-le i ms (omega arith) in
+    let grown : map literal (take (i + 1) ms) ≡ map literal (take i ms) ++ to_z w32 (of_z w32 c.literal_of.result) ∷ [] =
+    ap (map literal) (take_more ms i 0 (omega arith)) ∙ map-append literal (take i ms) (get_or ms i 0 ∷ []) ∙ ap (λ x. map literal (take i ms) ++ x ∷ []) (sym z) in
+    c.push-in-loop-u.ensures
+    ∙ extended_step (filled c.args.list.now) (filled c.loop-u.list) (pos (length ms) ∷ map literal (take i ms)) (to_z w32 (of_z w32 c.literal_of.result) ∷ []) c.loop-u.invariant
+    (omega (arith, c.requires.room, length-append (map literal (take i ms)) (to_z w32 (of_z w32 c.literal_of.result) ∷ [])))
+    ∙ ap (λ l. after (filled c.args.list.now) (pos (length ms) ∷ l)) (sym grown)

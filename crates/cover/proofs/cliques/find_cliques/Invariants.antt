@@ -1,10 +1,12 @@
-use Rattle.std.proofs.Common.{◌≡◌, ◌-◌, [], take}
-use Rattle.cover_theory.specs.Rows.{Went, Flat, conflicts, told}
+use Rattle.std.proofs.Common.{◌≡◌, ◌-◌}
+use Rattle.filling.specs.Views.{filled}
 use Rattle.cover_theory.specs.Rule.{sweep}
+use Rattle.cover_theory.specs.Rows.{Flat, told}
+use Rattle.cover.specs.Views.{Moved, rel_in}
 use Rattle.cover.proofs.cliques.find_cliques.Given as goal
 
 abbrev pub invariant-loop-u : goal.invariant-loop-u
 invariant-loop-u l =
-    Went l.count l.rows l.initial.words l.words l.initial.list l.list 0 l.used (conflicts l.count l.rows l.words, take l.used l.list)
-    × ◌≡◌ {A = Flat} (sweep told l.count (conflicts l.count l.rows l.words, take l.used l.list) (l.count - l.u) l.u)
-    (sweep told l.count (conflicts l.count l.rows l.initial.words, []) l.count 0)
+    Moved l.initial.remaining l.remaining (filled l.initial.list) (filled l.list) (rel_in l.remaining, (filled l.list).put)
+    × ◌≡◌ {A = Flat} (sweep told l.initial.remaining.count (rel_in l.remaining, (filled l.list).put) (l.initial.remaining.count - l.u) l.u)
+    (sweep told l.initial.remaining.count (rel_in l.initial.remaining, (filled l.initial.list).put) l.initial.remaining.count 0)

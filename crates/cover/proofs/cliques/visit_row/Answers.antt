@@ -1,39 +1,53 @@
-use Rattle.std.proofs.Common.{◌≡◌, ◌+◌, ◌-◌, ◌<◌, length, take, sym, refl, ap, ◌∙◌, arith}
-use Rattle.cover_theory.specs.Rows.{Flat, told, conflicts}
-use Rattle.cover_theory.specs.Rule.{visits}
-use Rattle.cover_theory.proofs.Starts.{row_in}
-use Rattle.cover_theory.proofs.Visits.{w_in, row_step, row_end, row_short, went_on, went_as}
+use Rattle.std.proofs.Common.{◌≡◌, ◌+◌, ◌-◌, ◌<◌, length, sym, ap, ◌∙◌, subst, arith}
+use Rattle.filling.specs.Views.{filled}
+use Rattle.cover_theory.specs.Rule.{Rel, visit, visits}
+use Rattle.cover_theory.specs.Rows.{Flat, told}
+use Rattle.cover_theory.proofs.Visits.{row_step, row_end, row_short}
+use Rattle.cover.specs.Reading.{Next}
+use Rattle.cover.specs.Views.{rel_in}
+use Rattle.cover.proofs.Growth.{conflict_in}
+use Rattle.cover.proofs.Moves.{moved_as, moved_on, moved_room, moved_count, on_none}
 use Rattle.cover.proofs.cliques.visit_row.Goals as goal
 
-pub after-requires : goal.after-requires
-after-requires c = (row_in _ _ _ _ c.requires.room.1.1 c.loop-w.invariant.0.fit.room, c.loop-w.invariant.0.fit.few)
-
 pub visit_pair-requires : goal.visit_pair-requires
-visit_pair-requires c = record {
-  fit = (c.loop-w.invariant.0.fit, (c.requires.fit.1.0, omega (arith, c.loop-w.invariant.0.high)));
-  room = (omega arith, omega arith);
-  pair = (omega (arith, c.in-Some.ensures.low, c.loop-w.invariant.1), (w_in c.args.count c.args.rows c.loop-w.words c.loop-w.list c.args.u c.loop-w.used c.loop-w.from c.loop-w.invariant.0.fit c.requires.room.1.1 c.loop-w.invariant.1 c.loop-w.invariant.2 c.in-Some.w c.in-Some.ensures, c.in-Some.ensures.here));
-}
+visit_pair-requires c =
+    let next : Next (rel_in c.loop-w.remaining) c.args.u c.loop-w.from c.in-Some.w = subst (λ (r : Rel). Next r c.args.u c.loop-w.from c.in-Some.w) c.rows.ensures.conflicts c.in-Some.ensures in
+    (omega (arith, next.low, c.loop-w.invariant.1), next.here)
 
-pub returns-in_default-visit_pair : goal.returns-in_default-visit_pair
-returns-in_default-visit_pair c =
-    let e = ap (λ (s : Flat). length s.1) c.loop-w.invariant.3 in
-    let len : length c.args.list.now ≡ length c.loop-w.list = omega arith in
-    omega (arith, e, row_short c.args.count c.args.rows c.loop-w.words c.loop-w.list c.args.u c.loop-w.used c.loop-w.from c.loop-w.invariant.0.fit c.requires.room.1.1 c.loop-w.invariant.1 c.loop-w.invariant.2 c.in-Some.w (length c.loop-w.list) c.in-Some.ensures c.in_default-visit_pair.ensures)
+pub returns-in_err-visit_pair : goal.returns-in_err-visit_pair
+returns-in_err-visit_pair c =
+    let l = c.loop-w in
+    let N = c.args.remaining.now.count in
+    let w = c.in-Some.w in
+    let next : Next (rel_in l.remaining) c.args.u l.from w = subst (λ (r : Rel). Next r c.args.u l.from w) c.rows.ensures.conflicts c.in-Some.ensures in
+    let n : l.remaining.count ≡ N = moved_count _ _ _ _ _ l.invariant.0 in
+    let high : w < N = let p = conflict_in l.remaining.count l.remaining.width l.remaining.words.now c.args.u w next.here in omega (arith, p.1) in
+    let short : length (filled l.list).put + length (filled l.list).rest < length (visit told N (rel_in l.remaining, (filled l.list).put) c.args.u w).1 =
+    subst (λ k. length (filled l.list).put + length (filled l.list).rest < length (visit told k (rel_in l.remaining, (filled l.list).put) c.args.u w).1) n c.in_err-visit_pair.ensures in
+    let more = row_short N (rel_in l.remaining) (filled l.list).put c.args.u l.from w (length (filled l.list).put + length (filled l.list).rest) next.low high next.before short in
+    on_none _ _ _ c.from_residual.ensures
+    (omega (arith, more, moved_room _ _ _ _ _ l.invariant.0, ap (λ (s : Flat). length s.1) l.invariant.3))
 
 pub loop-w-preserved : goal.loop-w-preserved
 loop-w-preserved c =
-    let q = c.in-Some-visit_pair.ensures in
-    let f = c.in-Some.ensures in
-    let l : c.in-Some.w < c.args.count = w_in c.args.count c.args.rows c.loop-w.words c.loop-w.list c.args.u c.loop-w.used c.loop-w.from c.loop-w.invariant.0.fit c.requires.room.1.1 c.loop-w.invariant.1 c.loop-w.invariant.2 c.in-Some.w f in
-    let e : ◌≡◌ {A = Flat} (visits told c.args.count (conflicts c.args.count c.args.rows c.visit_pair.new.words, take c.in-Some-visit_pair.to c.visit_pair.new.list) c.args.u (c.args.count - (c.in-Some.w + 1)) (c.in-Some.w + 1))
-    (visits told c.args.count (conflicts c.args.count c.args.rows c.loop-w.words, take c.loop-w.used c.loop-w.list) c.args.u (c.args.count - c.loop-w.from) c.loop-w.from) =
-    ap (λ (s : Flat). visits told c.args.count s c.args.u (c.args.count - (c.in-Some.w + 1)) (c.in-Some.w + 1)) q.state ∙ sym (row_step c.args.count c.args.rows c.loop-w.words c.loop-w.list c.args.u c.loop-w.used c.loop-w.from c.loop-w.invariant.0.fit c.requires.room.1.1 c.loop-w.invariant.1 c.loop-w.invariant.2 c.in-Some.w f) in (
-      went_as _ _ _ _ _ _ _ _ _ _ refl (went_on _ _ _ _ _ _ _ _ _ _ _ _ _ c.loop-w.auto.list c.loop-w.invariant.0 q),
-      omega (arith, f.low, c.loop-w.invariant.1),
+    let l = c.loop-w in
+    let N = c.args.remaining.now.count in
+    let w = c.in-Some.w in
+    let q = c.in_ok-visit_pair.ensures in
+    let next : Next (rel_in l.remaining) c.args.u l.from w = subst (λ (r : Rel). Next r c.args.u l.from w) c.rows.ensures.conflicts c.in-Some.ensures in
+    let n : l.remaining.count ≡ N = moved_count _ _ _ _ _ l.invariant.0 in
+    let high : w < N = let p = conflict_in l.remaining.count l.remaining.width l.remaining.words.now c.args.u w next.here in omega (arith, p.1) in (
+      moved_as _ _ _ _ _ _ (moved_on _ _ _ _ _ _ _ _ l.invariant.0 q) (sym q.state),
+      omega (arith, next.low, l.invariant.1),
       omega arith,
-      e ∙ c.loop-w.invariant.3,
+      ap (λ (s : Flat). visits told N s c.args.u (N - (w + 1)) (w + 1)) q.state
+          ∙ ap (λ k. visits told N (visit told k (rel_in l.remaining, (filled l.list).put) c.args.u w) c.args.u (N - (w + 1)) (w + 1)) n
+          ∙ sym (row_step N (rel_in l.remaining) (filled l.list).put c.args.u l.from w next.low high next.before) ∙ l.invariant.3,
     )
 
 pub returns : goal.returns
-returns c = went_as _ _ _ _ _ _ _ _ _ _ (sym (row_end c.args.count c.args.rows c.loop-w.words c.loop-w.list c.args.u c.loop-w.used c.loop-w.from c.loop-w.invariant.0.fit c.requires.room.1.1 c.loop-w.invariant.1 c.loop-w.invariant.2 c.in_default.ensures) ∙ c.loop-w.invariant.3) c.loop-w.invariant.0
+returns c =
+    let l = c.loop-w in
+    moved_as _ _ _ _ _ _ l.invariant.0
+    (sym (row_end c.args.remaining.now.count (rel_in l.remaining) (filled l.list).put c.args.u l.from l.invariant.2
+    (λ j h. ap (λ (r : Rel). r c.args.u j) (sym c.rows.ensures.conflicts) ∙ c.in_default.ensures j h)) ∙ l.invariant.3)

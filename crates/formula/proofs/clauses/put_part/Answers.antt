@@ -1,31 +1,41 @@
-use Rattle.std.proofs.Common.{◌≡◌, ◌+◌, ◌-◌, length, arith}
-use Rattle.writing_theory.proofs.Puts.{placed_admits, placed_room, placed_small, sides_room}
+use Rattle.std.proofs.Common.{◌+◌, ◌-◌, ◌≤◌, take, drop, subst, arith}
+use Rattle.encoder_theory.specs.Meaning.{last_end}
+use Rattle.formula_theory.specs.Writing.{part_auxiliaries}
+use Rattle.writing_theory.specs.Listed.{SoundBelow}
+use Rattle.writing_theory.proofs.Parts.{as_clique, as_biclique}
+use Rattle.writing_theory.proofs.Puts.{clique_admits, sides_small}
 use Rattle.formula.proofs.clauses.put_part.Goals as goal
 
-pub put_clique-requires : goal.put_clique-requires
-put_clique-requires g c =
+pub put_clique-requires-clause-admits : goal.put_clique-requires-clause-admits
+put_clique-requires-clause-admits g c =
     let M = g.E.Encoder.meaning c.args.encoder.now in
-    let place = c.in-Clique.place in
-    let size = c.in-Clique.size in
-    let e : size ≡ place + size - place = omega arith in
-    record {
-      admits = placed_admits M c.args.first c.args.list.now c.args.part c.requires.sound c.requires.fits place size (place + size - place) c.in-Clique.is e;
-      room = placed_room M c.args.first c.args.list.now c.args.part c.requires.sound c.requires.fits place size (place + size - place) c.in-Clique.is e
-          c.args.at (length c.args.out.now) c.requires.room;
-    }
+    let first = c.args.first in
+    let at = c.in-Clique.at in
+    let k = at + c.in-Clique.size - at in
+    let e = as_clique c.args.list.now c.args.part at c.in-Clique.size k c.in-Clique.is (omega arith) in
+    clique_admits M first (take k (drop at c.args.list.now)) (subst (SoundBelow first) e c.requires.sound) (subst (λ P. first + part_auxiliaries M P ≤ last_end) e c.requires.fits)
 
-pub put_biclique-requires : goal.put_biclique-requires
-put_biclique-requires g c =
+pub put_biclique-requires-clause-left : goal.put_biclique-requires-clause-left
+put_biclique-requires-clause-left g c =
     let M = g.E.Encoder.meaning c.args.encoder.now in
-    let place = c.in-Biclique.place in
-    let left = c.in-Biclique.left in
-    let right = c.in-Biclique.right in
-    let ej : left ≡ place + left - place = omega arith in
-    let ek : right ≡ place + left + right - (place + left) = omega arith in
-    let s = placed_small M c.args.first c.args.list.now c.args.part c.requires.sound c.requires.fits place left right (place + left - place) (place + left + right - (place + left)) c.in-Biclique.is ej ek in
-    record {
-      left = s.0;
-      right = (s.1, s.2);
-      room = sides_room M c.args.first c.args.list.now c.args.part c.requires.sound c.requires.fits place left right (place + left - place) (place + left + right - (place + left)) c.in-Biclique.is ej ek
-          c.args.at (length c.args.out.now) c.requires.room;
-    }
+    let first = c.args.first in
+    let at = c.in-Biclique.at in
+    let xs = c.args.list.now in
+    let a = c.in-Biclique.left in
+    let j = at + a - at in
+    let e = as_biclique xs c.args.part at a c.in-Biclique.right j c.in-Biclique.right c.in-Biclique.is (omega arith) (omega arith) in
+    let h : first + 1 ≤ last_end = subst (λ P. first + part_auxiliaries M P ≤ last_end) e c.requires.fits in
+    (sides_small first (take j (drop at xs)) (take c.in-Biclique.right (drop (at + a) xs)) (subst (SoundBelow first) e c.requires.sound) (omega arith)).0
+
+pub put_biclique-requires-clause-right : goal.put_biclique-requires-clause-right
+put_biclique-requires-clause-right g c =
+    let M = g.E.Encoder.meaning c.args.encoder.now in
+    let first = c.args.first in
+    let at = c.in-Biclique.at in
+    let xs = c.args.list.now in
+    let a = c.in-Biclique.left in
+    let b = c.in-Biclique.right in
+    let k = at + a + b - (at + a) in
+    let e = as_biclique xs c.args.part at a b a k c.in-Biclique.is (omega arith) (omega arith) in
+    let h : first + 1 ≤ last_end = subst (λ P. first + part_auxiliaries M P ≤ last_end) e c.requires.fits in
+    (sides_small first (take a (drop at xs)) (take k (drop (at + a) xs)) (subst (SoundBelow first) e c.requires.sound) (omega arith)).1

@@ -1,12 +1,7 @@
-use Rattle.std.proofs.Common.{ℕ, ◌-◌, List, length, ℤ}
-use Rattle.cover_theory.specs.Parts.{Part}
-use Rattle.writing_theory.specs.Listed.{Walked, Writable, PutSoFar}
+use Rattle.filling.specs.Views.{filled}
+use Rattle.writing_theory.proofs.Puts.{Putting}
+use Rattle.cover.specs.Left.{parts_left}
 use Rattle.formula.proofs.clauses.put_parts.Given as goal
 
-abbrev pub invariant-loop-at : goal.invariant-loop-at
-invariant-loop-at g l =
-    let M = g.E.Encoder.meaning l.encoder in
-    (n : ℕ) (Ps : List (Part ℤ)) → Writable n M Ps l.list l.first (length l.initial.out) → Walked Ps l.list l.at (PutSoFar M l.first l.initial.out l.spot l.next l.out)
-
-abbrev pub decreases-loop-at : goal.decreases-loop-at
-decreases-loop-at g l = length l.list - l.at
+abbrev pub invariant-loop-part : goal.invariant-loop-part
+invariant-loop-part g l = Putting (g.E.Encoder.meaning l.encoder) l.list l.first (filled l.fn.out) (parts_left l.part-iterator) l.next (filled l.out)

@@ -1,18 +1,18 @@
-use Rattle.std.proofs.Common.{length}
-use Rattle.cover_theory.specs.Lies.{conflicts_in}
-use Rattle.writing_theory.proofs.Completes.{complete_roomy, complete_put}
+use Rattle.std.proofs.Common.{length, ◌∙◌, rules}
+use Rattle.filling.specs.Views.{filled}
+use Rattle.formula_theory.specs.Writing.{part_auxiliaries, over_parts}
+use Rattle.formula_theory.specs.Outcome.{assignment_of}
+use Rattle.writing_theory.specs.Listed.{parts_of}
+use Rattle.writing_theory.specs.Completing.{broken}
+use Rattle.writing_theory.proofs.Completes.{completed_left, values_all}
+use Rattle.cover.specs.Views.{rel_of}
 use Rattle.formula.proofs.completing.complete_covered.Goals as goal
 
-pub returns : goal.returns
-returns g c =
-    let n = length c.args.values.now in
-    let rel = conflicts_in n c.args.words.now in
+pub returns-clause-leaves : goal.returns-clause-leaves
+returns-clause-leaves g c =
     let M = g.E.Encoder.meaning c.args.encoder.now in
-    let law = g.met.E.Encoder.lawful c.args.encoder.now in
-    record {
-      answer = c.in_ok-auxiliaries.ensures;
-      leaves = λ C ok.
-          let e = c.in_ok-auxiliaries.ensures C ok in
-          complete_put n rel M law C c.args.numbers c.args.values.now c.args.out.now c.args.list.now ok c.in_ok-auxiliaries.auxiliaries e c.put_parts.new.out
-          (c.put_parts.ensures C.parts (complete_roomy n rel M law C c.args.numbers c.args.values.now c.args.out.now c.args.list.now ok c.in_ok-auxiliaries.auxiliaries e));
-    }
+    let s = assignment_of c.args.values.now in
+    let Ps = parts_of c.args.list.now in
+    completed_left (over_parts (part_auxiliaries M) Ps) c.args.numbers (length c.args.out.now) (broken c.args.rows.now.count (rel_of c.args.rows.now) s)
+    c.in_ok-auxiliaries.auxiliaries c.in_ok-auxiliaries.ensures _ _ _
+    (search rules ∙ values_all M (g.met.E.Encoder.lawful c.args.encoder.now) (length c.args.values.now) s Ps c.requires.listed.sound _ _ (filled c.new.result) c.put_parts.new.out c.new.ensures c.put_parts.ensures)

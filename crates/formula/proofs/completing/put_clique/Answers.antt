@@ -1,18 +1,29 @@
-use Rattle.std.proofs.Common.{◌+◌, ◌≤◌, cond, length, sym, subst}
-use Rattle.encoder_theory.specs.Pairwise.{pairwise}
-use Rattle.encoder_theory.specs.Members.{Within}
+use Rattle.std.proofs.Common.{length, refl, sym, ap, ◌∙◌, subst}
+use Rattle.std.specs.Result.{IsOk}
+use Rattle.filling.specs.Views.{filled}
+use Rattle.encoder_theory.specs.Calls.{values_answer}
+use Rattle.encoder_theory.specs.Appended.{values_appended}
+use Rattle.formula_theory.specs.Writing.{chosen, true_place}
 use Rattle.formula_theory.specs.Outcome.{assignment_of}
 use Rattle.formula_theory.proofs.Models.{within_true}
+use Rattle.writing_theory.proofs.Puts.{values_ok}
+use Rattle.formula.specs.Chosen.{meaning_of}
 use Rattle.formula.proofs.completing.put_clique.Goals as goal
 
-pub put_values-requires : goal.put_values-requires
-put_values-requires g c =
-    let m = length c.args.members.now in
-    let w : Within c.true_place-place.result m = subst (λ t. Within t m) (sym c.true_place-place.ensures) (within_true (assignment_of c.args.values.now) c.args.members.now) in
-    record { few = c.requires.few; within = w; room = subst (λ b. c.args.at + (cond b (g.E.Encoder.meaning c.args.encoder.now) pairwise).auxiliaries m ≤ length c.args.out.now) (sym c.if-is_shorter.ensures) c.requires.room }
+pub unwrap-requires : goal.unwrap-requires
+unwrap-requires g c =
+    let N = meaning_of g.E.Encoder.meaning c.among-encoder.result in
+    let xs = c.args.members.now in
+    let s = assignment_of c.args.values.now in
+    let f = filled c.args.out.now in
+    let k = values_ok N (chosen (g.E.Encoder.meaning c.args.encoder.now) (length xs)) c.among-encoder.ensures (length xs) (true_place s xs) f c.requires.few (within_true s xs) c.requires.room in
+    subst IsOk (sym (c.append_values.ensures.answers ∙ ap (λ t. values_answer N (length xs) t f.rest) c.true_place.ensures ∙ k.0)) refl
 
-pub put_values-requires-else-is_shorter : goal.put_values-requires-else-is_shorter
-put_values-requires-else-is_shorter g c =
-    let m = length c.args.members.now in
-    let w : Within c.true_place-place.result m = subst (λ t. Within t m) (sym c.true_place-place.ensures) (within_true (assignment_of c.args.values.now) c.args.members.now) in
-    record { few = c.requires.few; within = w; room = subst (λ b. c.args.at + (cond b (g.E.Encoder.meaning c.args.encoder.now) pairwise).auxiliaries m ≤ length c.args.out.now) (sym c.if-is_shorter.ensures) c.requires.room }
+pub returns : goal.returns
+returns g c =
+    let N = meaning_of g.E.Encoder.meaning c.among-encoder.result in
+    let xs = c.args.members.now in
+    let s = assignment_of c.args.values.now in
+    let f = filled c.args.out.now in
+    let k = values_ok N (chosen (g.E.Encoder.meaning c.args.encoder.now) (length xs)) c.among-encoder.ensures (length xs) (true_place s xs) f c.requires.few (within_true s xs) c.requires.room in
+    c.append_values.ensures.leaves ∙ ap (λ t. values_appended N (length xs) t f) c.true_place.ensures ∙ k.1

@@ -1,12 +1,6 @@
-use Rattle.std.proofs.Common.{ℕ, ◌-◌, List, length, ℤ}
-use Rattle.cover_theory.specs.Parts.{Part}
-use Rattle.writing_theory.specs.Listed.{Listed, Walked, Takes}
+use Rattle.writing_theory.proofs.Parts.{Adding}
+use Rattle.cover.specs.Left.{parts_left}
 use Rattle.formula.proofs.parts.add_up.Given as goal
 
-abbrev pub invariant-loop-at : goal.invariant-loop-at
-invariant-loop-at g l =
-    let M = g.E.Encoder.meaning l.encoder in
-    (n : ℕ) (Ps : List (Part ℤ)) → Listed n M Ps l.list → Walked Ps l.list l.at (Takes M l.clauses l.auxiliaries)
-
-abbrev pub decreases-loop-at : goal.decreases-loop-at
-decreases-loop-at g l = length l.list - l.at
+abbrev pub invariant-loop-part : goal.invariant-loop-part
+invariant-loop-part g l = Adding (g.E.Encoder.meaning l.encoder) l.list l.total (parts_left l.part-iterator)

@@ -1,37 +1,38 @@
-use Rattle.std.proofs.Common.{◌+◌, ◌*◌, ◌≤◌, length, ap, ◌∙◌, arith}
-use Rattle.logic.specs.Clause.{flat}
-use Rattle.logic.proofs.Clauses.{length_flat}
-use Rattle.encoder_theory.specs.Buffer.{with_clause}
-use Rattle.cover_theory.specs.Rows.{conflicts}
-use Rattle.cover_theory.proofs.Starts.{row_in}
-use Rattle.writing_theory.specs.Remaining.{row_clauses}
-use Rattle.writing_theory.proofs.Rests.{block_begun, row_on, row_ends, first_below}
+use Rattle.std.proofs.Common.{◌≡◌, ◌+◌, ◌-◌, [], ◌∷◌, sym, ap, ◌∙◌, subst, arith, rules}
+use Rattle.filling.specs.Filled.{extended}
+use Rattle.filling.specs.Views.{filled}
+use Rattle.logic.specs.Literal.{literal}
+use Rattle.logic.specs.Clause.{against, flat}
+use Rattle.cover_theory.specs.Rule.{those}
+use Rattle.writing_theory.specs.Remaining.{row_clauses, Below}
+use Rattle.writing_theory.proofs.Still.{still_start, still_is, still_extended}
+use Rattle.writing_theory.proofs.Rests.{those_below, row_room}
+use Rattle.cover.specs.Views.{rel_of}
+use Rattle.cover.specs.Unread.{conflicts_left}
 use Rattle.formula.proofs.remaining.put_row.Goals as goal
 
 pub loop-w-init : goal.loop-w-init
 loop-w-init c =
-    let L = row_clauses c.args.count (conflicts c.args.count c.args.rows c.args.words.now) c.args.u (c.args.u + 1) in
-    let e = length_flat L in
-    let h : c.args.at + 2 * length L ≤ length c.args.out.now = c.requires.room in
-    (omega arith, block_begun c.args.out.now (flat L) c.args.at (omega arith))
-
-pub first_from-requires : goal.first_from-requires
-first_from-requires c =
-    let r = row_in c.args.count c.args.rows c.args.u (length c.args.words.now) c.requires.fit.1.0 c.requires.fit.0.room in
-    (r, c.requires.fit.0.few)
+    let N = c.args.rows.now.count in
+    let u = c.args.u in
+    let ws = those (rel_of c.args.rows.now u) (N - (u + 1)) (u + 1) in
+    let f = filled c.args.out.now in
+    let e : conflicts_left c.into_iter-w-iterator.result ≡ ws = ap conflicts_left c.into_iter-w-iterator.ensures.into_iter_gives ∙ c.after-w-items.ensures in (
+      still_is f (flat (row_clauses u ws)) f _ _ (ap (λ vs. flat (row_clauses u vs)) (sym e)) (still_start f (flat (row_clauses u ws)) (row_room u _ ws c.requires.room)),
+      subst (Below N) (sym e) (those_below N (rel_of c.args.rows.now u) (N - (u + 1)) (u + 1) (omega arith)),
+    )
 
 pub loop-w-preserved : goal.loop-w-preserved
 loop-w-preserved c =
-    let l = first_below c.args.count c.args.rows c.args.words.now c.requires.fit.0 c.args.u c.requires.fit.1.0 c.loop-w.from c.in-Some.w c.in-Some.ensures in (
-      omega arith,
-      row_on c.args.count c.args.rows c.args.words.now c.requires.fit.0 c.args.u c.requires.fit.1.0 _ c.args.out.now c.loop-w.out c.put_clause.new.out
-          c.loop-w.spot c.loop-w.from c.in-Some.w c.in-Some.ensures (c.put_clause.ensures ∙ ap (with_clause c.loop-w.out c.loop-w.spot) c.conflict_clause.ensures)
-          c.loop-w.invariant.1,
+    let N = c.args.rows.now.count in
+    let u = c.args.u in
+    let w = c.in-Some.w in
+    let L = against (literal u) (literal w) in
+    let all = flat (row_clauses u (those (rel_of c.args.rows.now u) (N - (u + 1)) (u + 1))) in
+    let f = filled c.args.out.now in
+    let g = filled c.loop-w.out in
+    let e : filled c.push_clause.new.out ≡ extended g (L.0 ∷ L.1 ∷ []) = search rules in
+    let step = c.in-Some.ensures.steps in (
+      still_extended f all g (L.0 ∷ L.1 ∷ []) _ (still_is f all g _ _ (ap (λ vs. flat (row_clauses u vs)) step) c.loop-w.invariant.0) (filled c.push_clause.new.out) e,
+      (subst (Below N) step c.loop-w.invariant.1).1,
     )
-
-pub returns : goal.returns
-returns c =
-    let L = row_clauses c.args.count (conflicts c.args.count c.args.rows c.args.words.now) c.args.u (c.args.u + 1) in
-    let r = row_ends c.args.count c.args.rows c.args.words.now c.requires.fit.0 c.args.u c.requires.fit.1.0 c.args.out.now c.loop-w.out c.args.at c.loop-w.spot
-    c.loop-w.from L c.requires.room c.loop-w.invariant.0 c.in_default.ensures c.loop-w.invariant.1 in
-    record { end = r.1; out = r.0 }

@@ -1,106 +1,47 @@
-use Rattle.std.proofs.Common.{◌≡◌, ◌<◌, ◌≤◌, true, false, length, take, sym, refl, ap, ◌∙◌, subst, arith, rules}
-use Rattle.logic.specs.Clause.{flat}
-use Rattle.encoder_theory.specs.Buffer.{with_block}
-use Rattle.encoder_theory.specs.Meaning.{Admitted}
-use Rattle.encoder_theory.specs.Pairwise.{pairwise}
-use Rattle.encoder_theory.proofs.PairwiseLaws.{pairwise_lawful}
-use Rattle.layer_theory.specs.Grouping.{groups}
-use Rattle.layer_theory.specs.Commander.{whole, commanders}
-use Rattle.layer_theory.specs.Tower.{tower}
-use Rattle.layer_theory.proofs.Parts.{length_commanders}
-use Rattle.layer_theory.proofs.TowerLaws.{third_fewer, tower_above, tower_lawful}
-use Rattle.layer_theory.proofs.Put.{below_admitted, names_fit, below_room, top_admits_names, top_room, all_put, whole_clauses, whole_auxiliaries, whole_list}
+use Rattle.std.proofs.Common.{◌≡◌, true, length, arith, rules, w32}
+use Rattle.std.proofs.lemmas.Int.{to_z_pos}
+use Rattle.filling.specs.Views.{filled}
+use Rattle.layer_theory.specs.Commander.{whole}
+use Rattle.layer_theory.proofs.Put.{tower_fit, ground_put, below_admits, below_room, top_shorter, top_admits_names, top_room, top_put}
 use Rattle.layers.proofs.tower.+put_tower.Goals as goal
 
-pub put_list-requires : goal.put_list-requires
-put_list-requires t c =
-    let xs = c.args.members.now in
-    let m = length xs in
-    let z = c.args.first in
-    let at = c.args.at in
-    let old = c.args.out.now in
-    let w : whole 3 m ≡ true = sym c.is_ground.ensures ∙ c.if-is_ground.true in
-    let ec = whole_clauses 3 m pairwise tower tower (tower_above m) w in
-    let ea = whole_auxiliaries 3 m pairwise tower tower (tower_above m) w in
-    record { admits = subst (λ a. Admitted xs z a) ea c.requires.admits; room = omega (arith, c.requires.room) }
+pub unwrap-requires : goal.unwrap-requires
+unwrap-requires t c =
+    let w : whole 3 (length c.args.members.now) ≡ true = search rules in
+    let z = to_z_pos w32 c.args.first (omega (arith, c.requires.admits.fits)) in
+    let n = (ground_put c.args.members.now c.args.first (filled c.args.out.now) w c.requires.admits c.requires.room _ z _ (filled c.append_clauses.new.out)
+    c.append_clauses.ensures.answers c.append_clauses.ensures.leaves).0 in
+    search rules
 
-pub returns-then-is_ground : goal.returns-then-is_ground
-returns-then-is_ground t c =
-    let xs = c.args.members.now in
-    let m = length xs in
-    let z = c.args.first in
-    let at = c.args.at in
-    let old = c.args.out.now in
-    let w : whole 3 m ≡ true = sym c.is_ground.ensures ∙ c.if-is_ground.true in
-    c.put_list.ensures ∙ ap (λ L. with_block old at (flat L)) (sym (whole_list 3 m pairwise tower tower (tower_above m) w xs z refl))
+pub returns-in_default : goal.returns-in_default
+returns-in_default t c =
+    let w : whole 3 (length c.args.members.now) ≡ true = search rules in
+    let z = to_z_pos w32 c.args.first (omega (arith, c.requires.admits.fits)) in
+    (ground_put c.args.members.now c.args.first (filled c.args.out.now) w c.requires.admits c.requires.room _ z _ (filled c.append_clauses.new.out)
+    c.append_clauses.ensures.answers c.append_clauses.ensures.leaves).1
 
-pub name_commanders-names-requires : goal.name_commanders-names-requires
-name_commanders-names-requires t c =
-    let xs = c.args.members.now in
-    let m = length xs in
-    let z = c.args.first in
-    let at = c.args.at in
-    let old = c.args.out.now in
-    let w : whole 3 m ≡ false = sym c.is_ground.ensures ∙ c.if-is_ground.false in
-    let k2 : 2 ≤ 3 = omega arith in
-    let en : c.group_count-n.result ≡ groups 3 m = c.group_count-n.ensures in
-    let f = names_fit 3 k2 pairwise tower tower pairwise_lawful tower_lawful xs (tower_above m) w z c.requires.admits in
-    (omega (arith, f.0), omega (arith, f.1))
+pub put-next-requires-clause-admits : goal.put-next-requires-clause-admits
+put-next-requires-clause-admits t c =
+    below_admits (tower_fit c.args.members.now c.args.first (filled c.args.out.now) c.in-Some.ensures.0 c.in-Some.ensures.1 c.in-Some.groups.parted c.requires.admits c.requires.room)
 
-pub put_below-above-requires : goal.put_below-above-requires
-put_below-above-requires t c =
-    let xs = c.args.members.now in
-    let m = length xs in
-    let z = c.args.first in
-    let at = c.args.at in
-    let old = c.args.out.now in
-    let w : whole 3 m ≡ false = sym c.is_ground.ensures ∙ c.if-is_ground.false in
-    let k2 : 2 ≤ 3 = omega arith in
-    record {
-      size = (k2, omega arith, w);
-      admitted = below_admitted 3 k2 pairwise tower tower pairwise_lawful tower_lawful xs (tower_above m) w z c.requires.admits;
-      room = below_room 3 k2 pairwise tower tower pairwise_lawful tower_lawful xs (tower_above m) w z c.requires.admits at old c.requires.room;
-    }
+pub put-next-requires-clause-room : goal.put-next-requires-clause-room
+put-next-requires-clause-room t c =
+    below_room (tower_fit c.args.members.now c.args.first (filled c.args.out.now) c.in-Some.ensures.0 c.in-Some.ensures.1 c.in-Some.groups.parted c.requires.admits c.requires.room)
+    c.in-Some.groups.members c.in-Some.ensures.1
 
 pub put_tower-requires : goal.put_tower-requires
 put_tower-requires t c =
-    let xs = c.args.members.now in
-    let m = length xs in
-    let z = c.args.first in
-    let at = c.args.at in
-    let old = c.args.out.now in
-    let w : whole 3 m ≡ false = sym c.is_ground.ensures ∙ c.if-is_ground.false in
-    let k2 : 2 ≤ 3 = omega arith in
-    let n = c.group_count-n.result in
-    let en : n ≡ groups 3 m = c.group_count-n.ensures in
-    let ys = take n c.name_commanders-names.result in
-    let ey : ys ≡ commanders (groups 3 m) z = c.name_commanders-names.ensures ∙ ap (λ q. commanders q z) en in
-    let b = c.put_below-above.ensures in
-    let fewer = third_fewer m w in
-    let ly : length ys ≡ groups 3 m = ap length ey ∙ length_commanders (groups 3 m) z in
-    let shorter : length ys < length xs = omega arith in (
-      search rules,
-      (
-        top_admits_names 3 k2 pairwise tower tower pairwise_lawful tower_lawful xs (tower_above m) w z c.requires.admits at old c.requires.room c.put_below-above.new.out c.put_below-above.new.out ys
-            c.put_below-above.result.at c.put_below-above.result.first ey b.at b.first b.leaves,
-        top_room 3 k2 pairwise tower tower pairwise_lawful tower_lawful xs (tower_above m) w z c.requires.admits at old c.requires.room c.put_below-above.new.out c.put_below-above.new.out ys
-            c.put_below-above.result.at c.put_below-above.result.first ey b.at b.first b.leaves,
-      ),
-    )
+    let h = tower_fit c.args.members.now c.args.first (filled c.args.out.now) c.in-Some.ensures.0 c.in-Some.ensures.1 c.in-Some.groups.parted c.requires.admits c.requires.room in
+    let l = top_shorter h (filled c.put-next.new.out) c.in-Some.groups.members c.in-Some.ensures.1 c.count.result c.name_commanders-names.result c.put-next.result
+    c.put-next.ensures.put c.count.ensures.formed c.name_commanders-names.ensures c.put-next.ensures.next in
+    let a = top_admits_names h (filled c.put-next.new.out) c.in-Some.groups.members c.in-Some.ensures.1 c.count.result c.name_commanders-names.result c.put-next.result
+    c.put-next.ensures.put c.count.ensures.formed c.name_commanders-names.ensures c.put-next.ensures.next in
+    let b = top_room h (filled c.put-next.new.out) c.in-Some.groups.members c.in-Some.ensures.1 c.count.result c.name_commanders-names.result c.put-next.result
+    c.put-next.ensures.put c.count.ensures.formed c.name_commanders-names.ensures c.put-next.ensures.next in
+    (search rules, (a, b))
 
 pub returns : goal.returns
 returns t c =
-    let xs = c.args.members.now in
-    let m = length xs in
-    let z = c.args.first in
-    let at = c.args.at in
-    let old = c.args.out.now in
-    let w : whole 3 m ≡ false = sym c.is_ground.ensures ∙ c.if-is_ground.false in
-    let k2 : 2 ≤ 3 = omega arith in
-    let n = c.group_count-n.result in
-    let en : n ≡ groups 3 m = c.group_count-n.ensures in
-    let ys = take n c.name_commanders-names.result in
-    let ey : ys ≡ commanders (groups 3 m) z = c.name_commanders-names.ensures ∙ ap (λ q. commanders q z) en in
-    let b = c.put_below-above.ensures in
-    all_put 3 k2 pairwise tower tower pairwise_lawful tower_lawful xs (tower_above m) w z c.requires.admits at old c.requires.room c.put_below-above.new.out c.put_tower.new.out ys
-    c.put_below-above.result.at c.put_below-above.result.first ey b.at b.first b.leaves c.put_tower.ensures
+    let h = tower_fit c.args.members.now c.args.first (filled c.args.out.now) c.in-Some.ensures.0 c.in-Some.ensures.1 c.in-Some.groups.parted c.requires.admits c.requires.room in
+    top_put h (filled c.put-next.new.out) c.in-Some.groups.members c.in-Some.ensures.1 c.count.result c.name_commanders-names.result c.put-next.result
+    c.put-next.ensures.put c.count.ensures.formed c.name_commanders-names.ensures c.put-next.ensures.next (filled c.put_tower.new.out) c.put_tower.ensures

@@ -1,21 +1,16 @@
-use Rattle.std.proofs.Common.{Err, ap, ◌∙◌, w32, SFits}
-use Rattle.std.proofs.lemmas.Result.{err_from_is_err_and}
+use Rattle.std.proofs.Common.{◌∙◌, w32, SFits, rules}
 use Rattle.std.proofs.lemmas.Int.{to_z-of_z}
 use Rattle.encoder_theory.specs.Pairwise.{pairwise}
-use Rattle.encoder_theory.proofs.Answered.{write_declined, write_granted, small_members}
+use Rattle.encoder_theory.proofs.PairwiseLaws.{pairwise_lawful}
+use Rattle.encoder_theory.proofs.Answered.{small_members, write_admitted, all_written}
 use Rattle.pairwise.proofs.PairwiseEncoder.write.Goals as goal
 
-pub returns-in_err-check_members : goal.returns-in_err-check_members
-returns-in_err-check_members c =
+pub put_pairs-requires-clause-small : goal.put_pairs-requires-clause-small
+put_pairs-requires-clause-small c =
     let f : SFits w32 c.args.first = c.ranges.first in
-    let p = err_from_is_err_and c.from_residual-in_err-check_members.result c.from_residual-in_err-check_members.ensures.1 in
-    let g = write_declined pairwise c.args.members.now c.args.first c.args.out.now c.in_ok-clauses.clauses c.in_ok-auxiliaries.auxiliaries
-    c.in_ok-clauses.ensures c.in_ok-auxiliaries.ensures c.in_err-check_members.field-0.0 (simp to_z-of_z at c.in_err-check_members.ensures) in
-    record { answers = p.1 ∙ ap Err p.2 ∙ g.0; leaves = g.1 }
+    small_members c.args.members.now _ _ (write_admitted pairwise pairwise_lawful c.args.members.now c.args.first c.args.out.now _ (simp to_z-of_z at c.in_ok-check_write.ensures)).0
 
-pub put_pairs-requires : goal.put_pairs-requires
-put_pairs-requires c =
+pub returns-clause-leaves : goal.returns-clause-leaves
+returns-clause-leaves c =
     let f : SFits w32 c.args.first = c.ranges.first in
-    let g = write_granted pairwise c.args.members.now c.args.first c.args.out.now c.in_ok-clauses.clauses c.in_ok-auxiliaries.auxiliaries
-    c.in_ok-clauses.ensures c.in_ok-auxiliaries.ensures c.in_ok-check_members.field-0 (simp to_z-of_z at c.in_ok-check_members.ensures) in
-    record { small = small_members c.args.members.now _ _ g.0; room = g.1 }
+    search rules ∙ all_written pairwise pairwise_lawful c.args.members.now c.args.first c.args.out.now _ (simp to_z-of_z at c.in_ok-check_write.ensures) _ _ c.put_pairs.new.out c.new.ensures c.put_pairs.ensures

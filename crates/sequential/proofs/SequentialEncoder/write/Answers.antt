@@ -1,21 +1,16 @@
-use Rattle.std.proofs.Common.{Err, ap, ◌∙◌, w32, SFits, rules}
-use Rattle.std.proofs.lemmas.Result.{err_from_is_err_and}
+use Rattle.std.proofs.Common.{◌∙◌, w32, SFits, rules}
 use Rattle.std.proofs.lemmas.Int.{to_z-of_z}
 use Rattle.encoder_theory.specs.Sequential.{sequential}
-use Rattle.encoder_theory.proofs.Answered.{write_declined, write_granted}
+use Rattle.encoder_theory.proofs.SequentialLaws.{sequential_lawful}
+use Rattle.encoder_theory.proofs.Answered.{write_admitted, all_written}
 use Rattle.sequential.proofs.SequentialEncoder.write.Goals as goal
 
-pub returns-in_err-first : goal.returns-in_err-first
-returns-in_err-first c =
+pub put_sequence-requires-clause-admits : goal.put_sequence-requires-clause-admits
+put_sequence-requires-clause-admits c =
     let f : SFits w32 c.args.first = c.ranges.first in
-    let p = err_from_is_err_and c.from_residual-in_err-first.result c.from_residual-in_err-first.ensures.1 in
-    let g = write_declined sequential c.args.members.now c.args.first c.args.out.now c.in_ok-clauses.clauses c.in_ok-auxiliaries.auxiliaries
-    c.in_ok-clauses.ensures c.in_ok-auxiliaries.ensures c.in_err-first.field-0.0 (simp to_z-of_z at c.in_err-first.ensures) in
-    record { answers = p.1 ∙ ap Err p.2 ∙ g.0; leaves = g.1 }
+    (write_admitted sequential sequential_lawful c.args.members.now c.args.first c.args.out.now _ (simp to_z-of_z at c.in_ok-first.ensures)).0
 
-pub put_sequence-requires : goal.put_sequence-requires
-put_sequence-requires c =
+pub returns-clause-leaves : goal.returns-clause-leaves
+returns-clause-leaves c =
     let f : SFits w32 c.args.first = c.ranges.first in
-    let g = write_granted sequential c.args.members.now c.args.first c.args.out.now c.in_ok-clauses.clauses c.in_ok-auxiliaries.auxiliaries
-    c.in_ok-clauses.ensures c.in_ok-auxiliaries.ensures c.in_ok-first.first (simp to_z-of_z at c.in_ok-first.ensures) in
-    record { admits = g.0; two = search rules; room = g.1 }
+    search rules ∙ all_written sequential sequential_lawful c.args.members.now c.args.first c.args.out.now _ (simp to_z-of_z at c.in_ok-first.ensures) _ _ c.put_sequence.new.out c.new.ensures c.put_sequence.ensures

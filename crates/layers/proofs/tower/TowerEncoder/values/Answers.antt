@@ -1,17 +1,9 @@
-use Rattle.std.proofs.Common.{sym, ◌∙◌}
-use Rattle.encoder_theory.proofs.Answered.{values_granted}
+use Rattle.std.proofs.Common.{◌∙◌, rules}
+use Rattle.encoder_theory.proofs.Answered.{all_valued}
 use Rattle.layer_theory.specs.Tower.{tower}
 use Rattle.layer_theory.proofs.TowerLaws.{tower_lawful}
-use Rattle.encoder_theory.proofs.Inner.{filled_block, values_answers, values_is}
 use Rattle.layers.proofs.tower.TowerEncoder.values.Goals as goal
 
-pub returns : goal.returns
-returns c =
-    let m = c.args.members in
-    let t = c.args.place in
-    let old = c.args.out.now in
-    let q = values_granted tower m t old c.in_ok-auxiliaries.auxiliaries c.in_ok-auxiliaries.ensures c.in_ok-check_place.ensures in
-    record {
-      answers = sym (values_answers tower m t old q.0 q.1 q.2);
-      leaves = c.put_tower_values.ensures ∙ filled_block tower tower_lawful m t old q.0 q.1 ∙ sym (values_is tower m t old q.0 q.1 q.2);
-    }
+pub returns-clause-leaves : goal.returns-clause-leaves
+returns-clause-leaves c =
+    search rules ∙ all_valued tower tower_lawful c.args.members c.args.place c.args.out.now c.in_ok-check_values.ensures _ _ c.put_tower_values.new.out c.new.ensures c.put_tower_values.ensures

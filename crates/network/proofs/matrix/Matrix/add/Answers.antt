@@ -1,25 +1,22 @@
-use Rattle.std.proofs.Common.{◌≡◌, ℕ, Err, Result, sym, refl}
-use Rattle.std.proofs.lemmas.Result.{err_from_is_err_and}
+use Rattle.std.proofs.Common.{w32, SFits}
 use Rattle.std.proofs.lemmas.Int.{to_z-of_z}
-use Rattle.std.proofs.lemmas.Bool.{cond-true}
-use Rattle.fault.specs.declared.Fault.{Fault}
-use Rattle.logic.specs.Literal.{index}
 use Rattle.network_theory.specs.declared.Call.TheVariants.{Add}
-use Rattle.network_theory.specs.Calls.{answered, objection}
-use Rattle.network_theory.proofs.Answered.{err_answered}
+use Rattle.network_theory.proofs.Led.{add_taken, add_declined}
+use Rattle.network_theory.proofs.Kept.{sound_same, after_sound}
+use Rattle.network.specs.Views.{net_of}
 use Rattle.network.proofs.matrix.Matrix.add.Goals as goal
 
-pub returns-in_err-u : goal.returns-in_err-u
-returns-in_err-u c =
-    let fa = c.ranges.a in let fb = c.ranges.b in
-    let m = c.args.self.now in
-    let h : ◌≡◌ {A = Result (ℕ × ℕ) Fault} (Err c.in_err-u.field-0.0) (answered (objection m.variables (Add c.args.a c.args.b)) (index c.args.a, index c.args.b)) =
-    simp to_z-of_z at c.in_err-u.ensures.value in
-    let k = err_answered _ _ _ _ h in
-    let p = err_from_is_err_and c.from_residual.result c.from_residual.ensures.1 in
-    record {
-      answer = rw (p.1, p.2) k.1;
-      words = sym (cond-true _ _ _ k.0);
-      variables = refl;
-      lent = refl;
-    }
+pub returns-in_err-u-clause-network : goal.returns-in_err-u-clause-network
+returns-in_err-u-clause-network c =
+    let fa : SFits w32 c.args.a = c.ranges.a in
+    let fb : SFits w32 c.args.b = c.ranges.b in
+    add_declined (net_of c.args.self.now) c.args.a c.args.b _ c.in_err-u.field-0.0 (simp to_z-of_z at c.in_err-u.ensures.value)
+
+pub invariant_of-self : goal.invariant_of-self
+invariant_of-self c =
+    let fa : SFits w32 c.args.a = c.ranges.a in
+    let fb : SFits w32 c.args.b = c.ranges.b in
+    let self = c.args.self.now in
+    let added = add_taken (net_of self) c.args.a c.args.b c.in_ok-u.u c.in_ok-u.w c.join.new.words (simp to_z-of_z at c.in_ok-u.ensures.value) c.join.ensures in
+    let s = sound_same _ _ added (after_sound (net_of self) (Add c.args.a c.args.b) (self.few, (self.room, (self.mutual, (self.apart, (self.trimmed, tt)))))) in
+    record { few = s.0; room = s.1.0; «mutual» = s.1.1.0; apart = s.1.1.1.0; trimmed = s.1.1.1.1.0 }

@@ -1,0 +1,10 @@
+use Rattle.std.proofs.Common.{◌≡◌, ℕ, not, ◌&&◌, take}
+use Rattle.cover_theory.specs.Rule.{among}
+use Rattle.cover_theory.specs.Rows.{marked}
+use Rattle.cover.specs.Views.{rel_in, shape_of}
+use Rattle.cover.proofs.remaining.Remaining.remove.Given as goal
+
+abbrev pub invariant-loop-u : goal.invariant-loop-u
+invariant-loop-u l =
+    (shape_of l.self ≡ shape_of l.initial.self)
+    × ((a b : ℕ) → rel_in l.self a b ≡ (rel_in l.initial.self a b && not (among (take l.u-index l.clique) a && marked l.mask.words b)))

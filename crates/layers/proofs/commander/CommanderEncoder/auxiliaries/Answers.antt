@@ -1,0 +1,11 @@
+use Rattle.std.proofs.Common.{◌+◌, ◌≤◌, arith, rules}
+use Rattle.encoder_theory.proofs.Answered.{told_is}
+use Rattle.encoder_theory.proofs.Inner.{few_auxiliaries}
+use Rattle.layers.proofs.commander.CommanderEncoder.auxiliaries.Goals as goal
+
+pub overflow_add-result : goal.overflow_add-result
+overflow_add-result g c =
+    let t = told_is _ _ _ c.in_ok-auxiliaries.ensures in
+    let b = few_auxiliaries (g.T.Encoder.meaning c.args.self.now.top) (g.met.T.Encoder.lawful c.args.self.now.top) c.count.result c.count.ensures.few in
+    let small : c.auxiliaries-2.result + c.in_ok-auxiliaries.field-0 ≤ 140_000 = omega arith in
+    search rules
