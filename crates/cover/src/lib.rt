@@ -126,7 +126,7 @@ impl<'a> Iterator for Parts<'a> {
     ghost remaining = { item_count parts_left };
 
     fn next(&mut self) -> Option<Part> {
-        let part = read_part(self.list, self.at)?;
+        let part = part_at(self.list, self.at)?;
         self.at = part.end();
         Some(part)
     }

@@ -8,6 +8,7 @@ ghost use Rattle.encoder_theory.specs.Meaning.{Meaning, last_end};
 ghost use Rattle.encoder_theory.specs.Laws.{Lawful};
 ghost use Rattle.encoder_theory.specs.Calls.{uses, is_proper, is_admitted, is_placed, answer, told, clauses_fit, write_answer, write_leaves, values_answer, values_leaves};
 ghost use Rattle.encoder_theory.specs.Appended.{clauses_appended, values_appended};
+ghost use Rattle.encoder_theory.specs.Buffer.{with_clause};
 ghost use Rattle.filling.specs.Filled.{extended};
 ghost use Rattle.filling.specs.Views.{filled};
 
@@ -103,7 +104,7 @@ fn are_proper(members: &[i32], first: u32) -> bool
 {
     for (i, member) in members.iter().enumerate() {
         let variable = member.unsigned_abs();
-        if variable == 0 || variable >= first || is_used(&members[i + 1..], variable) {
+        if variable == 0 || variable >= first || is_used(&members[..i], variable) {
             return false;
         }
     }
@@ -175,11 +176,24 @@ pub fn auxiliary_literal(first: u32, i: usize) -> i32
     (first as usize).saturating_add(i).min(LAST_END) as i32
 }
 
+// Puts a clause at the numbers `at` and `at` + 1; a buffer that has not both stays as it is.
+pub fn put_clause(out: &mut [i32], at: usize, clause: (i32, i32))
+    ensures { out.new ≡ with_clause out.old at clause }
+{
+    if at < out.len() && at + 1 < out.len() {
+        out[at] = clause.0;
+        out[at + 1] = clause.1;
+    }
+}
+
 // Puts a clause next, its two literals, if there is room for both.
 pub fn push_clause(out: &mut Filling<i32>, clause: (i32, i32))
     ensures { filled out.new ≡ extended (filled out.old) (clause.0 ∷ clause.1 ∷ []) }
 {
-    out.extend(&[clause.0, clause.1])
+    if out.room() >= 2 {
+        put_clause(out.buffer, out.len, clause);
+        out.len += 2;
+    }
 }
 
 // Puts an encoder's clauses next, as its own `write` does at the start of a buffer.

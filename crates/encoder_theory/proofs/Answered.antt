@@ -65,14 +65,17 @@ module _ (M : Meaning) (law : Lawful M) (m : ℕ) (t : Option ℕ) (out : List �
       let p = (placed_decides m t).0 g.0 in
       (p.0, p.1, leb-true _ _ g.1)
 
+  pub values_put : (new : List ℕ) → new ≡ map byte (M.values m t) ++ drop (M.auxiliaries m) out → new ≡ values_leaves M m t out
+  values_put new h =
+      let g = granted (is_placed m t) (values_room M m out) tt tt checked in
+      h ∙ sym (cond-true (is_placed m t) _ _ g.0 ∙ cond-true (values_room M m out) _ _ g.1)
+
   pub all_valued : (name : GName) (f : Filled ℕ) (put : Filling ℕ) → f ≡ record { put = []; rest = out; lender = name } → filled put ≡ after f (map byte (M.values m t))
       → put.buffer.now ≡ values_leaves M m t out
   all_valued name f put e h =
-      let g = granted (is_placed m t) (values_room M m out) tt tt checked in
       let n : length (map byte (M.values m t)) ≡ M.auxiliaries m = length-map (M.values m t) byte ∙ law.well_formed.valued m t values_admitted.0 values_admitted.1 in
-      whole_is put ∙ ap whole (h ∙ ap (λ (k : Filled ℕ). after k (map byte (M.values m t))) e)
-      ∙ ap (λ k. map byte (M.values m t) ++ drop k out) n
-      ∙ sym (cond-true (is_placed m t) _ _ g.0 ∙ cond-true (values_room M m out) _ _ g.1)
+      values_put put.buffer.now
+      (whole_is put ∙ ap whole (h ∙ ap (λ (k : Filled ℕ). after k (map byte (M.values m t))) e) ∙ ap (λ k. map byte (M.values m t) ++ drop k out) n)
 
 -- admitted members are literals of 32 bits
 pub small_members : (xs : List ℤ) (first n : ℕ) → Admitted xs first n → (i : ℕ) → i < length xs → variable (member xs i) ≤ last_end

@@ -1,14 +1,16 @@
 -- What a call that got the rest of a buffer leaves in the whole of it.
 use base.Fml.{GName}
 use borrow.Rule.Slice.PartMut.{put_mid}
-use Rattle.std.proofs.Common.{◌≡◌, ℕ, ◌+◌, ◌-◌, ◌*◌, ◌≤◌, List, [], ◌++◌, map, length, take, drop, ℤ, pos, nat_abs, Ok, Err, Option, sym, ap, ◌∙◌, subst, append_assoc, arith, length-append}
+use Rattle.std.proofs.Common.{◌≡◌, ℕ, ◌+◌, ◌-◌, ◌*◌, ◌≤◌, List, [], ◌∷◌, ◌++◌, map, length, take, drop, ℤ, pos, nat_abs, Ok, Err, Option, sym, ap, ◌∙◌, subst, append_assoc, arith, length-append}
 use Rattle.std.proofs.lemmas.Bool.{leb-true, le-leb, cond-true}
-use Rattle.std.proofs.lemmas.List.{length-take-le, length-drop, take_at, drop_at, take_all, take-append-drop, drop_all, append-nil}
-use Rattle.filling.specs.Filled.{Filled, after}
+use Rattle.std.proofs.lemmas.List.{length-take-le, length-drop, take_at, drop_at, take_all, take-append-drop, drop_all, append-nil, length-set, take_more_set, drop-set-lt, drop-drop}
+use Rattle.std.specs.Prelude.{slice_set}
+use Rattle.filling.specs.Filled.{Filled, after, extended}
+use Rattle.filling.proofs.Extended.{extended_fits}
 use Rattle.fault.specs.declared.Fault.{Fault}
-use Rattle.logic.specs.Clause.{flat}
+use Rattle.logic.specs.Clause.{Clause, flat}
 use Rattle.logic.proofs.Clauses.{length_flat}
-use Rattle.encoder_theory.specs.Buffer.{byte}
+use Rattle.encoder_theory.specs.Buffer.{byte, with_clause}
 use Rattle.encoder_theory.specs.Members.{Within}
 use Rattle.encoder_theory.specs.Meaning.{Meaning, Admits, most_members}
 use Rattle.encoder_theory.specs.Laws.{Lawful}
@@ -110,3 +112,26 @@ module _ (M : Meaning) (m : ℕ) (t : Option ℕ) (f : Filled ℕ) (few : m ≤ 
         cond-true (is_placed m t) _ _ a ∙ cond-true (values_room M m f.rest) _ _ b,
         cond-true (is_placed m t) _ _ a ∙ cond-true (values_room M m f.rest) _ _ b,
       )
+
+-- a clause at the next two numbers
+pub clause_put : (buf next : List ℤ) (name : GName) (at : ℕ) (c : Clause) → at ≤ length buf → 2 ≤ length buf - at → next ≡ with_clause buf at c
+    → (record { put = take (at + 2) next; rest = drop (at + 2) next; lender = name }) ≡ extended (record { put = take at buf; rest = drop at buf; lender = name }) (c.0 ∷ c.1 ∷ [])
+clause_put buf next name at c l r e =
+    let one = slice_set buf at c.0 in
+    let two = slice_set one (at + 1) c.1 in
+    let n : length one ≡ length buf = length-set buf at c.0 in
+    let is : next ≡ two = e ∙ cond-true _ _ _ (le-leb (at + 2) (length buf) (omega arith)) in
+    let step : at + 2 ≡ at + 1 + 1 = omega arith in
+    let front : take (at + 2) two ≡ take at buf ++ (c.0 ∷ c.1 ∷ []) =
+    ap (λ k. take k two) step
+    ∙ take_more_set one (at + 1) c.1 (omega arith)
+    ∙ ap (λ z. z ++ c.1 ∷ []) (take_more_set buf at c.0 (omega arith))
+    ∙ append_assoc (take at buf) (c.0 ∷ []) (c.1 ∷ []) in
+    let back : drop (at + 2) two ≡ drop 2 (drop at buf) =
+    drop-set-lt (at + 2) one (at + 1) c.1 (omega arith)
+    ∙ drop-set-lt (at + 2) buf at c.0 (omega arith)
+    ∙ sym (drop-drop 2 at buf) in
+    ap (λ b. record { put = take (at + 2) b; rest = drop (at + 2) b; lender = name }) is
+    ∙ ap (λ z. record { put = z; rest = drop (at + 2) two; lender = name }) front
+    ∙ ap (λ z. record { put = take at buf ++ (c.0 ∷ c.1 ∷ []); rest = z; lender = name }) back
+    ∙ sym (extended_fits (record { put = take at buf; rest = drop at buf; lender = name }) (c.0 ∷ c.1 ∷ []) (let d = length-drop at buf in omega arith))

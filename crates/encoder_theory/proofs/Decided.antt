@@ -1,6 +1,7 @@
 -- The tests of a call's members and place say what the laws ask for.
-use Rattle.std.proofs.Common.{◌≡◌, ℕ, zero, suc, ◌+◌, ◌<◌, ◌≤◌, true, false, not, ◌&&◌, eqb, ltb, leb, List, [], ◌∷◌, length, ℤ, pos, negsuc, Some, None, Decides, Option, sym, refl, ap, arith}
-use Rattle.std.proofs.lemmas.Bool.{ltb-true, lt-ltb, leb-true, le-leb, eq-eqb, ne_eqb, both_ways, and_parts, and_from, and_left, or_from, or_left, or_right, not-true, not_from_false}
+use Rattle.std.proofs.Common.{◌≡◌, ℕ, zero, suc, ◌+◌, ◌<◌, ◌≤◌, Bool, true, false, not, ◌&&◌, ◌||◌, eqb, ltb, leb, List, [], ◌∷◌, length, take, ℤ, pos, negsuc, Some, None, Decides, Option, sym, refl, ap, ◌∙◌, subst, ⊎_elim, arith}
+use Rattle.std.proofs.lemmas.Bool.{ltb-true, lt-ltb, leb-true, le-leb, eq-eqb, ne_eqb, cases_eq, cases_lt, both_ways, false_from_ne_true, and_parts, and_from, and_left, or_from, or_left, or_right, not-true, not_from_false}
+use Rattle.std.proofs.lemmas.List.{get_or-take, length-take-le}
 use Rattle.logic.specs.Literal.{variable}
 use Rattle.encoder_theory.specs.Members.{member, Proper, Within}
 use Rattle.encoder_theory.specs.Meaning.{Admitted, most_members, last_end}
@@ -52,6 +53,70 @@ proper_from (x ∷ xs) f p =
       below = λ i l. p.below (suc i) (omega arith);
       distinct = λ i j li lj e. let z = p.distinct (suc i) (suc j) (omega arith) (omega arith) e in omega arith;
     }))
+
+-- what uses tells of the members
+used_at : (xs : List ℤ) (v : ℕ) → uses xs v ≡ true → (j : ℕ) × (j < length xs) × (variable (member xs j) ≡ v)
+used_at [] v h = absurd (both_ways false refl h)
+used_at (x ∷ xs) v h = ⊎_elim
+    (λ e. (0, omega arith, e))
+    (λ d. let p = used_at xs v (later (eqb (variable x) v) (uses xs v) (ne_eqb (variable x) v d) h) in (suc p.0, omega arith, p.2))
+    (cases_eq (variable x) v)
+  where
+    later : (a b : Bool) → a ≡ false → (a || b) ≡ true → b ≡ true
+    later true b e h = absurd (both_ways true e refl)
+    later false b e h = h
+
+-- the members before the place i are literals on distinct variables below first
+pub record ProperTo (xs : List ℤ) (first i : ℕ) : Type 0 where
+  pub literals : (k : ℕ) → k < i → 1 ≤ variable (member xs k)
+  pub below : (k : ℕ) → k < i → variable (member xs k) < first
+  pub distinct : (j k : ℕ) → j < i → k < i → variable (member xs j) ≡ variable (member xs k) → j ≡ k
+
+pub proper_start : (xs : List ℤ) (f : ℕ) → ProperTo xs f 0
+proper_start xs f = record { literals = λ k l. absurd (omega arith); below = λ k l. absurd (omega arith); distinct = λ j k lj lk e. absurd (omega arith) }
+
+pub proper_end : (xs : List ℤ) (f i : ℕ) → i ≡ length xs → ProperTo xs f i → is_proper xs f ≡ true
+proper_end xs f i e p = proper_from xs f (record {
+  literals = λ k l. p.literals k (omega arith);
+  below = λ k l. p.below k (omega arith);
+  distinct = λ j k lj lk d. p.distinct j k (omega arith) (omega arith) d;
+})
+
+-- one more, which is a literal below first, on the variable of none before it
+pub proper_on : (xs : List ℤ) (f i : ℕ) → ProperTo xs f i → i < length xs → 1 ≤ variable (member xs i) → variable (member xs i) < f
+    → uses (take i xs) (variable (member xs i)) ≡ false → ProperTo xs f (i + 1)
+proper_on xs f i p l a b n = record {
+  literals = λ k h. ⊎_elim (λ s. p.literals k s) (λ s. subst (λ j. 1 ≤ variable (member xs j)) (let e : i ≡ k = omega arith in e) a) (cases_lt k i);
+  below = λ k h. ⊎_elim (λ s. p.below k s) (λ s. subst (λ j. variable (member xs j) < f) (let e : i ≡ k = omega arith in e) b) (cases_lt k i);
+  distinct = λ j k hj hk e. ⊎_elim
+      (λ sj. ⊎_elim (λ sk. p.distinct j k sj sk e) (λ sk. absurd (apart j sj (e ∙ ap (λ m. variable (member xs m)) (let q : k ≡ i = omega arith in q)))) (cases_lt k i))
+      (λ sj. ⊎_elim (λ sk. absurd (apart k sk (sym e ∙ ap (λ m. variable (member xs m)) (let q : j ≡ i = omega arith in q)))) (λ sk. omega arith) (cases_lt k i))
+      (cases_lt j i);
+}
+  where
+    apart : (j : ℕ) → j < i → variable (member xs j) ≡ variable (member xs i) → ⊥
+    apart j s e =
+        let m : member (take i xs) j ≡ member xs j = get_or-take i xs j (pos 0) s in
+        let t = length-take-le i xs (omega arith) in
+        both_ways (uses (take i xs) (variable (member xs i))) n
+        (uses_at (take i xs) (variable (member xs i)) j (omega arith) (ap variable m ∙ e))
+
+-- one that is no literal, or not below first, or on the variable of one before it
+improper : (xs : List ℤ) (f : ℕ) → (Proper xs f → ⊥) → is_proper xs f ≡ false
+improper xs f h = false_from_ne_true (is_proper xs f) (λ e. h (proper_true xs f e))
+
+pub no_literal : (xs : List ℤ) (f i : ℕ) → i < length xs → variable (member xs i) ≡ 0 → is_proper xs f ≡ false
+no_literal xs f i l e = improper xs f (λ p. let z = p.literals i l in omega arith)
+
+pub not_below : (xs : List ℤ) (f i : ℕ) → i < length xs → f ≤ variable (member xs i) → is_proper xs f ≡ false
+not_below xs f i l e = improper xs f (λ p. let z = p.below i l in omega arith)
+
+pub repeated : (xs : List ℤ) (f i : ℕ) → i < length xs → uses (take i xs) (variable (member xs i)) ≡ true → is_proper xs f ≡ false
+repeated xs f i l e =
+    let u = used_at (take i xs) (variable (member xs i)) e in
+    let s : u.0 < i = let z = u.1 in let t = length-take-le i xs (omega arith) in omega arith in
+    let m : member (take i xs) u.0 ≡ member xs u.0 = get_or-take i xs u.0 (pos 0) s in
+    improper xs f (λ p. let z = p.distinct u.0 i (omega arith) l (sym (ap variable m) ∙ u.2) in omega arith)
 
 pub admitted_decides : (xs : List ℤ) (first n : ℕ) → Decides (is_admitted xs (pos first) n) (Admitted xs first n)
 admitted_decides xs first n = (

@@ -1,6 +1,6 @@
 -- Clauses and values that are put next one after another, also row by row.
-use Rattle.std.proofs.Common.{◌≡◌, ℕ, ◌+◌, ◌*◌, ◌<◌, ◌≤◌, Bool, List, [], ◌∷◌, ◌++◌, map, length, ℤ, sym, ap, ◌∙◌, append_assoc, arith, length-append}
-use Rattle.std.proofs.lemmas.List.{map-append, length-map}
+use Rattle.std.proofs.Common.{◌≡◌, ℕ, ◌+◌, ◌*◌, ◌<◌, ◌≤◌, Bool, List, [], ◌∷◌, ◌++◌, map, length, take, take_all, slice_set, ℤ, sym, ap, ◌∙◌, append_assoc, arith, length-append}
+use Rattle.std.proofs.lemmas.List.{map-append, length-map, take_more_set}
 use Rattle.std.proofs.lemmas.List.FromFn.{length-map-range_with_len, map-range_with_len_more}
 use Rattle.filling.specs.Filled.{Filled, after, extended}
 use Rattle.filling.proofs.Extended.{extended_step}
@@ -65,3 +65,12 @@ value_next v f g h i b e so put room =
     let k = length-map-range_with_len v 0 i in
     let a = length-append (map byte (table i v)) (b ∷ []) in
     put ∙ extended_step f g (map byte (table i v)) (b ∷ []) so (omega arith) ∙ ap (after f) (sym more)
+
+-- the same in a buffer that has a place for each
+pub byte_next : (v : ℕ → Bool) (out : List ℕ) (i b : ℕ) → b ≡ byte (v i) → i < length out → take i out ≡ map byte (table i v) → take (i + 1) (slice_set out i b) ≡ map byte (table (i + 1) v)
+byte_next v out i b e l h =
+    take_more_set out i b l ∙ ap (λ xs. xs ++ (b ∷ [])) h ∙ ap (λ y. map byte (table i v) ++ (y ∷ [])) e
+    ∙ sym (ap (map byte) (map-range_with_len_more v 0 i i (omega arith)) ∙ map-append byte (table i v) (v i ∷ []))
+
+pub bytes_end : (v : ℕ → Bool) (out : List ℕ) (i n : ℕ) → i ≡ n → length out ≡ n → take i out ≡ map byte (table i v) → out ≡ map byte (table n v)
+bytes_end v out i n e l h = sym (take_all i out (omega arith)) ∙ h ∙ ap (λ k. map byte (table k v)) e

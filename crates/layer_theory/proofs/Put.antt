@@ -1,17 +1,13 @@
 -- What the calls of a layer put into a buffer, group by group, and the numbers that they tell.
-use Rattle.std.proofs.Common.{◌≡◌, ℕ, zero, suc, ◌+◌, ◌-◌, ◌*◌, ◌<◌, ◌≤◌, min, Bool, true, false, List, [], ◌∷◌, ◌++◌, map, length, take, drop, ℤ, pos, nat_abs, Ok, Option, Result, sym, refl, ap, ◌∙◌, subst, ⊎_elim, append_assoc, mul-le-mul, arith, get_or, length-append, length-drop}
-use Rattle.std.proofs.lemmas.List.{length-map, map-append, take_at, drop_at, drop-drop}
-use Rattle.std.proofs.lemmas.List.FromFn.{length-map-range_with_len, map-range_with_len_more, sum_by-map-range_with_len_more, take-map-range_with_len}
+use Rattle.std.proofs.Common.{◌≡◌, ℕ, zero, suc, ◌+◌, ◌-◌, ◌*◌, ◌<◌, ◌≤◌, min, Bool, true, false, List, [], ◌∷◌, ◌++◌, map, length, take, take_all, drop, slice_set, ℤ, pos, nat_abs, Ok, Option, Result, sym, refl, ap, ◌∙◌, subst, ⊎_elim, append_assoc, mul-le-mul, arith, length-append, length-drop}
+use Rattle.std.proofs.lemmas.List.{length-map, take_more_set, map-append, take_at, drop_at, drop-drop}
+use Rattle.std.proofs.lemmas.List.FromFn.{length-map-range_with_len, map-range_with_len_more, sum_by-map-range_with_len_more}
 use Rattle.std.specs.List.{range_with_len, sum as sum_of}
 use Rattle.std.proofs.lemmas.Bool.{cases_eq, cond-true, cond-false}
 use Rattle.fault.specs.declared.Fault.{Fault}
 use Rattle.logic.specs.Clause.{Clause, flat}
 use Rattle.logic.proofs.Clauses.{length_flat, flat_append}
 use base.Fml.{GName}
-use denote.Param.Members.{Mut, Called}
-use Rattle.std.specs.Array.{IsFromFnResult, IsFromFnResultFrom}
-use Rattle.std.proofs.lemmas.List.{same_lists}
-use Rattle.std.proofs.lemmas.List.FromFn.{get_or-map-range_with_len}
 use Rattle.filling.specs.Filled.{Filled, after, extended}
 use Rattle.filling.proofs.Extended.{after_none, after_more, extended_step}
 use Rattle.encoder_theory.specs.Each.{each, table}
@@ -280,6 +276,18 @@ module _ (k : ℕ) (one : 1 ≤ k) (m : ℕ) (few : m ≤ most_members) (G : Mea
               ∙ ap (after f) (sym (map-append byte (each 0 i shown) (shown i)) ∙ ap (map byte) (sym (each_last shown i))),
         )
 
+-- the commanders' names, one after another
+pub name_next : (first i : ℕ) (names : List ℤ) (x : ℤ) → i < length names → x ≡ pos (min (first + i) last_end) → take i names ≡ table i (λ i. pos (min (first + i) last_end))
+    → take (i + 1) (slice_set names i x) ≡ table (i + 1) (λ i. pos (min (first + i) last_end))
+name_next first i names x l e h =
+    take_more_set names i x l ∙ ap (λ ys. ys ++ (x ∷ [])) h ∙ ap (λ y. table i (λ i. pos (min (first + i) last_end)) ++ (y ∷ [])) e
+    ∙ sym (map-range_with_len_more (λ i. pos (min (first + i) last_end)) 0 i i (omega arith))
+
+pub names_end : (first i count : ℕ) (names rest : List ℤ) → i ≡ count → length names ≡ count → take i names ≡ table i (λ i. pos (min (first + i) last_end))
+    → take count (names ++ rest) ≡ table count (λ i. pos (min (first + i) last_end))
+names_end first i count names rest e n h =
+    take_at names rest count n ∙ sym (take_all i names (omega arith)) ∙ h ∙ ap (λ k. table k (λ i. pos (min (first + i) last_end))) e
+
 -- the groups' values have room after the commanders'
 pub group_values_room : (k m : ℕ) (G : Meaning) (t : ℕ → Bool) (f mid : Filled ℕ) → (below k G).auxiliaries m ≤ length f.rest
     → mid ≡ after f (map byte (table (groups k m) t)) → (inner k G).auxiliaries m ≤ length mid.rest
@@ -410,15 +418,12 @@ module _ {k : ℕ} {G T M : Meaning} {xs : List ℤ} {first : ℕ} {f : Filled �
 
   -- what is below the top, and then the top's clauses over the commanders
   module _ (now : Filled ℤ) (m : ℕ) (em : m ≡ length xs) (n : ℕ) (names : List ℤ) (next : ℕ) (e : now ≡ after f (flat ((below k G).list xs first)))
-      (en : n ≡ groups k m) (ey : names ≡ table most_members (λ i. pos (min (first + i) last_end))) (ea : next ≡ first + (below k G).auxiliaries m) where
+      (en : n ≡ groups k m) (ey : take n names ≡ table n (λ i. pos (min (first + i) last_end))) (ea : next ≡ first + (below k G).auxiliaries m) where
     names_are : take n names ≡ commanders count first
     names_are =
-        let a = few_groups in
         let b = all_ok.fits in
         let c : n ≡ count = en ∙ ap (groups k) em in
-        ap (take n) ey ∙ ap (λ q. take q (table most_members (λ i. pos (min (first + i) last_end)))) c
-        ∙ take-map-range_with_len (λ i. pos (min (first + i) last_end)) 0 most_members count a
-        ∙ same_names count (omega arith)
+        ey ∙ ap (λ q. table q (λ i. pos (min (first + i) last_end))) c ∙ same_names count (omega arith)
       where
         same_names : (c : ℕ) → first + c ≤ last_end → table c (λ i. pos (min (first + i) last_end)) ≡ commanders c first
         same_names zero l = refl
@@ -622,20 +627,3 @@ ground_put xs first f w ok room z ez r new er en =
       en ∙ ap (λ x. clauses_appended pairwise xs x f) ez ∙ c.1
           ∙ ap (λ (L : List Clause). after f (flat L)) (sym (whole_list 3 (length xs) pairwise tower tower (tower_above (length xs)) w xs first refl)),
     )
-
--- an array that a closure made, where each of its calls gives h of the index
-pub made_by : {F B : Type 0} (g : Mut F (ℕ × Unit {0}) B) (f : F) (h : ℕ → B) → ((i : ℕ) (y : B) (q : F) → Called g f (i, tt) y q → (q ≡ f) × (y ≡ h i))
-    → (ys : List B) (n : ℕ) → IsFromFnResult g f ys n → ys ≡ table n h
-made_by {F} {B} g f h calls ys n r =
-    same_lists ys (table n h) (r.long ∙ sym (length-map-range_with_len h 0 n)) (λ k d l.
-    let b : k < n = omega (arith, r.long) in
-    made 0 n r.each k d (omega arith) (omega arith) ∙ sym (get_or-map-range_with_len h 0 n k k d b (omega arith)))
-  where
-    made : (i n : ℕ) → IsFromFnResultFrom g f ys i n → (k : ℕ) (d : B) → i ≤ k → k < i + n → get_or ys k d ≡ h k
-    made i zero r k d lo hi = absurd (omega arith)
-    made i (suc j) (q, y, e, w, rest) k d lo hi =
-        let c = calls i y q w in
-        ⊎_elim
-        (λ (z : k ≡ i). ap (λ o. get_or ys o d) z ∙ e.1 d ∙ c.1 ∙ sym (ap h z))
-        (λ ne. made (i + 1) j (subst (λ p. IsFromFnResultFrom g p ys (i + 1) j) c.0 rest) k d (omega arith) (omega arith))
-        (cases_eq k i)

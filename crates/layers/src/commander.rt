@@ -63,8 +63,9 @@ impl<G: Encoder, T: Encoder> Encoder for Commander<G, T> {
         let first = self.check_write(members, first, out.len())?;
         let mut out = Filling::new(out);
         let next = groups.put(&self.group, members, first, &mut out);
-        let names = name_commanders(first);
-        append_clauses(&self.top, &names[..groups.count()], next as i32, &mut out)
+        let count = groups.count();
+        let names = name_commanders(first, count);
+        append_clauses(&self.top, &names[..count], next as i32, &mut out)
     }
 
     fn values(&self, members: usize, place: Option<usize>, out: &mut [u8]) -> Result<(), Fault> {

@@ -1,5 +1,5 @@
 // The groups of a layer: the rule that forms them, and what is written for them below the top.
-ghost use Rattle.std.specs.Prelude.{◌≡◌, ℕ, ◌+◌, ◌*◌, ◌<◌, ◌≤◌, min, true, false, MatchOption, map, length, pos};
+ghost use Rattle.std.specs.Prelude.{◌≡◌, ℕ, ◌+◌, ◌*◌, ◌<◌, ◌≤◌, min, true, false, MatchOption, map, length, take, pos};
 ghost use Rattle.logic.specs.Literal.{variable, complement};
 ghost use Rattle.logic.specs.Clause.{flat};
 ghost use Rattle.filling.specs.Filled.{after};
@@ -15,7 +15,6 @@ use encoder::{
     Encoder, MOST_MEMBERS, append_clauses, append_values, auxiliary_literal, push_clause,
 };
 use filling::Filling;
-use std::array;
 
 // Fewer members form no groups.
 const FEWEST_GROUPED: usize = 6;
@@ -29,11 +28,16 @@ fn link(first: u32, i: usize, member: i32) -> (i32, i32)
     (auxiliary_literal(first, i), -member)
 }
 
-// The commanders of as many groups as there can be, in order; none is numbered past the last end.
-pub(crate) fn name_commanders(first: u32) -> [i32; MOST_MEMBERS]
-    ensures { result ≡ table most_members (λ i. pos (min (first + i) last_end)) }
+// The commanders of so many groups, in order, at the start of an array; none is numbered past the last end.
+pub(crate) fn name_commanders(first: u32, count: usize) -> [i32; MOST_MEMBERS]
+    requires { count ≤ most_members }
+    ensures { take count result ≡ table count (λ i. pos (min (first + i) last_end)) }
 {
-    array::from_fn(|i| auxiliary_literal(first, i))
+    let mut names = [0; MOST_MEMBERS];
+    for (i, name) in names[..count].iter_mut().enumerate() {
+        *name = auxiliary_literal(first, i);
+    }
+    names
 }
 
 // Members in groups of `k`, the last perhaps of fewer.

@@ -55,8 +55,9 @@ fn put_tower(members: &[i32], first: u32, out: &mut Filling<i32>)
         return;
     };
     let next = groups.put(&Pairwise, members, first, out);
-    let names = name_commanders(first);
-    put_tower(&names[..groups.count()], next, out);
+    let count = groups.count();
+    let names = name_commanders(first, count);
+    put_tower(&names[..count], next, out);
 }
 
 // Puts the values next.

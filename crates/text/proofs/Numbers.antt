@@ -1,8 +1,7 @@
 -- What numbers put one after another leave, in a filling and of the room.
-use Rattle.std.proofs.Common.{◌≡◌, ℕ, ◌+◌, ◌≤◌, cond, List, [], ◌∷◌, ◌++◌, length, ℤ, decimal, sym, refl, ap, ◌∙◌, append_assoc, length-append, arith}
-use Rattle.std.proofs.lemmas.List.Recursion.{is_count_by}
-use Rattle.std.proofs.lemmas.Bool.Decides.{nat_tests}
-use Rattle.std.specs.List.{count_by}
+use Rattle.std.proofs.Common.{◌≡◌, ℕ, ◌+◌, ◌≤◌, cond, List, [], ◌∷◌, ◌++◌, map, sum, length, ℤ, decimal, sym, refl, ap, ◌∙◌, append_assoc, length-append, arith}
+use Rattle.std.proofs.lemmas.List.Recursion.{is_sum_by}
+use Rattle.std.proofs.lemmas.List.Sums.{sum-map}
 use Rattle.std.specs.Fmt.{signed_decimal}
 use Rattle.dimacs.specs.Clauses.{closes, closings}
 use Rattle.dimacs.specs.File.{header_line}
@@ -34,5 +33,5 @@ header_put f a b c d e n k room ea eb ec ed ee =
     fe ∙ ap (after f) (simp append_assoc)
 
 -- the numbers that close a clause
-pub closings_count : (zs : List ℤ) → count_by closes zs ≡ closings zs
-closings_count zs = sym (is_count_by closings closes refl (λ z x. grind (arith, nat_tests)) zs)
+pub closings_sum : (zs : List ℤ) → sum (map (λ z. cond (closes z) 1 0) zs) ≡ closings zs
+closings_sum zs = sum-map (λ z. cond (closes z) 1 0) zs ∙ sym (is_sum_by closings (λ z. cond (closes z) 1 0) refl (λ z xs. refl) zs)

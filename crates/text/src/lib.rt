@@ -4,5 +4,6 @@
 // `write::write` writes such a list as text, which reads back as the same numbers.
 #![tactic(auto)]
 
+pub mod class;
 pub mod read;
 pub mod write;

@@ -5,6 +5,7 @@ ghost use Rattle.dimacs.specs.Reading.{reading, closed_by, limit_of};
 ghost use Rattle.dimacs.specs.Laws.{AcceptsFiles, OneFile};
 ghost use Rattle.text.specs.Steady.{Steady, Decimal, Small};
 
+use crate::class::class_of;
 use dimacs::{Class, Header, Machine, State, Summary};
 use fault::{Fault, Refusal};
 
@@ -278,7 +279,7 @@ impl Reader<'_> {
         ensures { Ran self.old text.now result self.new }
     {
         for (at, byte) in text.iter().enumerate() {
-            self.take(Class::from(*byte), at)?;
+            self.take(class_of(*byte), at)?;
         }
         self.end(text.len())?;
         self.summary(text.len())

@@ -32,16 +32,16 @@ put-next-requires-clause-room t c =
 pub put_tower-requires : goal.put_tower-requires
 put_tower-requires t c =
     let h = tower_fit c.args.members.now c.args.first (filled c.args.out.now) c.in-Some.ensures.0 c.in-Some.ensures.1 c.in-Some.groups.parted c.requires.admits c.requires.room in
-    let l = top_shorter h (filled c.put-next.new.out) c.in-Some.groups.members c.in-Some.ensures.1 c.count.result c.name_commanders-names.result c.put-next.result
-    c.put-next.ensures.put c.count.ensures.formed c.name_commanders-names.ensures c.put-next.ensures.next in
-    let a = top_admits_names h (filled c.put-next.new.out) c.in-Some.groups.members c.in-Some.ensures.1 c.count.result c.name_commanders-names.result c.put-next.result
-    c.put-next.ensures.put c.count.ensures.formed c.name_commanders-names.ensures c.put-next.ensures.next in
-    let b = top_room h (filled c.put-next.new.out) c.in-Some.groups.members c.in-Some.ensures.1 c.count.result c.name_commanders-names.result c.put-next.result
-    c.put-next.ensures.put c.count.ensures.formed c.name_commanders-names.ensures c.put-next.ensures.next in
+    let l = top_shorter h (filled c.put-next.new.out) c.in-Some.groups.members c.in-Some.ensures.1 c.count-count.result c.name_commanders-names.result c.put-next.result
+    c.put-next.ensures.put c.count-count.ensures.formed c.name_commanders-names.ensures c.put-next.ensures.next in
+    let a = top_admits_names h (filled c.put-next.new.out) c.in-Some.groups.members c.in-Some.ensures.1 c.count-count.result c.name_commanders-names.result c.put-next.result
+    c.put-next.ensures.put c.count-count.ensures.formed c.name_commanders-names.ensures c.put-next.ensures.next in
+    let b = top_room h (filled c.put-next.new.out) c.in-Some.groups.members c.in-Some.ensures.1 c.count-count.result c.name_commanders-names.result c.put-next.result
+    c.put-next.ensures.put c.count-count.ensures.formed c.name_commanders-names.ensures c.put-next.ensures.next in
     (search rules, (a, b))
 
 pub returns : goal.returns
 returns t c =
     let h = tower_fit c.args.members.now c.args.first (filled c.args.out.now) c.in-Some.ensures.0 c.in-Some.ensures.1 c.in-Some.groups.parted c.requires.admits c.requires.room in
-    top_put h (filled c.put-next.new.out) c.in-Some.groups.members c.in-Some.ensures.1 c.count.result c.name_commanders-names.result c.put-next.result
-    c.put-next.ensures.put c.count.ensures.formed c.name_commanders-names.ensures c.put-next.ensures.next (filled c.put_tower.new.out) c.put_tower.ensures
+    top_put h (filled c.put-next.new.out) c.in-Some.groups.members c.in-Some.ensures.1 c.count-count.result c.name_commanders-names.result c.put-next.result
+    c.put-next.ensures.put c.count-count.ensures.formed c.name_commanders-names.ensures c.put-next.ensures.next (filled c.put_tower.new.out) c.put_tower.ensures

@@ -40,8 +40,8 @@ returns g c =
     let h = commander_fit (g.met.G.Encoder.lawful s.group) (g.met.T.Encoder.lawful s.top) s.size.0 c.in-Some.ensures.0 c.in-Some.groups.parted
     c.args.members.now c.args.first c.args.out.now _ c.in-Some.ensures.1 checked _ _ c.new-out.ensures in
     let z = to_z_pos w32 c.put-next.result (omega (arith, c.put-next.ensures.small)) in
-    let n = top_next h (filled c.put-next.new.out) c.in-Some.groups.members c.in-Some.ensures.1 c.count.result c.name_commanders-names.result c.put-next.result
-    c.put-next.ensures.put c.count.ensures.formed c.name_commanders-names.ensures c.put-next.ensures.next _ z _ (filled c.append_clauses.new.out) c.append_clauses.ensures.answers c.append_clauses.ensures.leaves in
+    let n = top_next h (filled c.put-next.new.out) c.in-Some.groups.members c.in-Some.ensures.1 c.count-count.result c.name_commanders-names.result c.put-next.result
+    c.put-next.ensures.put c.count-count.ensures.formed c.name_commanders-names.ensures c.put-next.ensures.next _ z _ (filled c.append_clauses.new.out) c.append_clauses.ensures.answers c.append_clauses.ensures.leaves in
     record {
       answers = n.0 ∙ answered (clauses_fit M c.args.members.now c.args.first) (clauses_room M c.args.members.now c.args.out.now) _ _ checked;
       leaves = search rules ∙ all_written M (commander_lawful s.k s.size.0 _ _ (g.met.G.Encoder.lawful s.group) (g.met.T.Encoder.lawful s.top))
